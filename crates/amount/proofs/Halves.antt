@@ -1,0 +1,198 @@
+-- Laws of the definitions of `specs/Value.antt`: which answer a fact on halves leads to.
+use Prim.Native.Nat.{ℕ, _+_, _-_, _*_, _/_, _%_, _^_, _<_, _≤_}
+use mathlib.Core.Path.{_≡_, refl, ap, sym, _∙_}
+use lib.Dec.{ltb, leb, eqb}
+use mathlib.Core.Bool.{Bool, true, false, cond}
+use native.Mathlib.Omega.{arith}
+use native.Mathlib.Nat.{le-trans, le-add-right, mul-le-mul-right, div-add-mod'}
+use lib.Arith.{digits-lt, digits-div, digits-mod, lt-of-le-ne}
+use borrow.Author.Tests.{lt-ltb, le-ltb, le-leb, lt-leb, eq-eqb, ne-eqb, ltb-true, ltb-false, leb-true, leb-false, eqb-true, eqb-false}
+use Rattle.amount.specs.Numbers.{val, limit, halves, orderOf, checked, difference, tenths}
+use Rattle.amount.specs.declared.uint128.Uint128.{Uint128}
+use Rattle.amount.specs.declared.uint128.Divided.{Divided}
+use Rattle.amount.specs.declared.uint128.Ordering.{Ordering}
+use Rattle.amount.specs.declared.uint128.Ordering.the-variants.{Less, Equal, Greater}
+use Rattle.amount.specs.declared.uint128.Checked.{Checked}
+use Rattle.amount.specs.declared.uint128.Checked.the-variants.{Some, None}
+
+pub order-less : (a b : ℕ) → a < b → Less ≡ orderOf a b
+unfolding orderOf
+order-less a b h = simp (lt-ltb a b h)
+
+pub order-equal : (a b : ℕ) → a ≡ b → Equal ≡ orderOf a b
+unfolding orderOf
+order-equal a b h = simp (le-ltb a b (omega arith), eq-eqb a b h)
+
+pub order-greater : (a b : ℕ) → b < a → Greater ≡ orderOf a b
+unfolding orderOf
+order-greater a b h = simp (le-ltb a b (omega arith), ne-eqb a b (λ e. omega arith))
+
+-- the order of two numbers by their upper halves, then by their lower ones
+pub val-lt-hi : (x y : Uint128) → x .lo < 2 ^ 64 → x .hi < y .hi → val x < val y
+unfolding val
+val-lt-hi x y l h = omega arith
+
+pub val-lt-lo : (x y : Uint128) → x .hi ≡ y .hi → x .lo < y .lo → val x < val y
+unfolding val
+val-lt-lo x y h l = omega arith
+
+pub val-eq : (x y : Uint128) → x .hi ≡ y .hi → x .lo ≡ y .lo → val x ≡ val y
+unfolding val
+val-eq x y h l = omega arith
+
+-- the halves of a number are those that it is made of
+pub halves-of : (x : Uint128) (n : ℕ) → x .lo < 2 ^ 64 → val x ≡ n → x ≡ halves n
+unfolding halves val
+halves-of x n h e = rw (← e, digits-div (x .hi) h, digits-mod (x .hi) h)
+
+pub checked-number : (x : Uint128) (n : ℕ) → x .hi < 2 ^ 64 → x .lo < 2 ^ 64 → val x ≡ n → Some x ≡ checked n
+unfolding checked limit val
+checked-number x n g h e =
+    simp (lt-ltb n (2 ^ 128) (rw e at (digits-lt {m = 2 ^ 64} {c = 2 ^ 64} g h))) (ap Some (halves-of x n h e))
+
+pub checked-outside : (h l n : ℕ) → 2 ^ 64 ≤ h → h * 2 ^ 64 + l ≡ n → None ≡ checked n
+unfolding checked limit
+checked-outside h l n f e =
+    simp (le-ltb n (2 ^ 128) (rw e at (le-trans (mul-le-mul-right (2 ^ 64) f) (le-add-right (h * 2 ^ 64) l))))
+
+pub difference-number : (x : Uint128) (a b : ℕ) → x .lo < 2 ^ 64 → val x + b ≡ a → Some x ≡ difference a b
+unfolding difference
+difference-number x a b h e =
+    simp (le-leb b a (omega arith)) (ap Some (halves-of x (a - b) h (omega arith)))
+
+pub difference-outside : (a b : ℕ) → a < b → None ≡ difference a b
+unfolding difference
+difference-outside a b f = simp (lt-leb b a f)
+
+-- a sum and a difference by halves, with a carry k
+pub sum-halves : (x y : Uint128) (k l : ℕ) → k * 2 ^ 64 + l ≡ x .lo + y .lo → (x .hi + y .hi + k) * 2 ^ 64 + l ≡ val x + val y
+unfolding val
+sum-halves x y k l e = omega arith
+
+pub difference-halves : (x y z : Uint128) (k : ℕ) → x .hi + y .hi + k ≡ z .hi → x .lo + y .lo ≡ z .lo + k * 2 ^ 64 → val x + val y ≡ val z
+unfolding val
+difference-halves x y z k e f = omega arith
+
+-- ten times a number and d more, by halves
+pub ten-halves : (x : Uint128) (d k h l : ℕ) → k * 2 ^ 64 + l ≡ x .lo * 10 + d → h ≡ x .hi * 10 + k → h * 2 ^ 64 + l ≡ val x * 10 + d
+unfolding val
+ten-halves x d k h l e f = omega arith
+
+-- the tenth by halves
+pub tenth-halves : (q x : Uint128) (m d : ℕ) → x .hi ≡ q .hi * 10 + m → m * 2 ^ 64 + x .lo ≡ q .lo * 10 + d → val q * 10 + d ≡ val x
+unfolding val
+tenth-halves q x m d e f = omega arith
+
+pub tenths-of : (q : Uint128) (d n : ℕ) → q .lo < 2 ^ 64 → d < 10 → val q * 10 + d ≡ n → record { quotient = q; digit = d } ≡ tenths n
+unfolding tenths
+tenths-of q d n h b e =
+    let f : d ≡ n % 10 = omega arith in
+    rw (← halves-of q (n / 10) h (omega arith), ← f)
+
+-- zero is two halves of zero
+pub val-zero : (x : Uint128) → x .hi ≡ 0 → x .lo ≡ val x
+unfolding val
+val-zero x h = omega arith
+
+pub val-pos : (x : Uint128) → (x .hi ≡ 0 → ⊥) → val x ≡ 0 → ⊥
+unfolding val
+val-pos x h e = h (omega arith)
+
+-- forms that `omega` proves here, and not among a function's facts, where it meets numbers past its bound
+pub zero-first : (x y : ℕ) → 0 * 2 ^ 64 + x ≡ y → x ≡ y
+zero-first x y e = omega arith
+
+pub no-carry : (k x y : ℕ) → k ≤ 0 → k * 2 ^ 64 + x ≡ y → x ≡ y
+no-carry k x y z e = omega arith
+
+pub carry-past : (k x : ℕ) → 0 < k → 2 ^ 64 ≤ k * 2 ^ 64 + x
+carry-past k x h = omega arith
+
+-- what an answer tells a caller
+pub val-halves : (n : ℕ) → val (halves n) ≡ n
+unfolding val halves
+val-halves n = div-add-mod' n (2 ^ 64)
+
+number-case : (t : Bool) (n : ℕ) (x : Uint128) → ltb n limit ≡ t → Some x ≡ cond t (Some (halves n)) None → (n < limit) × (x ≡ halves n)
+number-case true n x e h = (ltb-true n limit e, cc)
+number-case false n x e h = let z : _≡_ {A = ℕ} 0 1 = cc in (omega arith, cc)
+
+pub checked-is : (n : ℕ) (x : Uint128) → Some x ≡ checked n → (n < limit) × (x ≡ halves n)
+unfolding checked
+checked-is n x h = number-case (ltb n limit) n x refl h
+
+outside-case : (t : Bool) (n : ℕ) → ltb n limit ≡ t → None ≡ cond t (Some (halves n)) None → limit ≤ n
+outside-case true n e h = let z : _≡_ {A = ℕ} 0 1 = cc in omega arith
+outside-case false n e h = ltb-false n limit e
+
+pub checked-none : (n : ℕ) → None ≡ checked n → limit ≤ n
+unfolding checked
+checked-none n h = outside-case (ltb n limit) n refl h
+
+-- what an order tells a caller
+abbrev pub OrderFact : Ordering → ℕ → ℕ → Type 0
+OrderFact Less a b = a < b
+OrderFact Equal a b = a ≡ b
+OrderFact Greater a b = b < a
+
+order-case : (t u : Bool) (a b : ℕ) → ltb a b ≡ t → eqb a b ≡ u → OrderFact (cond t Less (cond u Equal Greater)) a b
+order-case true u a b p q = ltb-true a b p
+order-case false true a b p q = eqb-true a b q
+order-case false false a b p q = lt-of-le-ne (ltb-false a b p) (λ e. eqb-false a b q (sym e))
+
+pub order-fact : (a b : ℕ) → OrderFact (orderOf a b) a b
+unfolding orderOf
+order-fact a b = order-case (ltb a b) (eqb a b) a b refl refl
+
+difference-number-case : (t : Bool) (a b : ℕ) (x : Uint128) → leb b a ≡ t → Some x ≡ cond t (Some (halves (a - b))) None → (b ≤ a) × (x ≡ halves (a - b))
+difference-number-case true a b x e h = (leb-true b a e, cc)
+difference-number-case false a b x e h = let z : _≡_ {A = ℕ} 0 1 = cc in (omega arith, cc)
+
+pub difference-is : (a b : ℕ) (x : Uint128) → Some x ≡ difference a b → (b ≤ a) × (x ≡ halves (a - b))
+unfolding difference
+difference-is a b x h = difference-number-case (leb b a) a b x refl h
+
+difference-outside-case : (t : Bool) (a b : ℕ) → leb b a ≡ t → None ≡ cond t (Some (halves (a - b))) None → a < b
+difference-outside-case true a b e h = let z : _≡_ {A = ℕ} 0 1 = cc in omega arith
+difference-outside-case false a b e h = leb-false b a e
+
+pub difference-none : (a b : ℕ) → None ≡ difference a b → a < b
+unfolding difference
+difference-none a b h = difference-outside-case (leb b a) a b refl h
+
+-- a number that its halves determine
+pub record Whole (x : Uint128) : Type 0 where
+  pub fits : val x < limit
+  pub whole : x ≡ halves (val x)
+
+pub whole-of : (x : Uint128) → x .hi < 2 ^ 64 → x .lo < 2 ^ 64 → Whole x
+unfolding val limit
+whole-of x g h = record { fits = digits-lt {m = 2 ^ 64} {c = 2 ^ 64} g h; whole = halves-of x (val x) h refl }
+
+pub val-of : {x : Uint128} {n : ℕ} → x ≡ halves n → val x ≡ n
+val-of {x} {n} e = ap val e ∙ val-halves n
+
+pub whole-halves : {x : Uint128} {n : ℕ} → n < limit → x ≡ halves n → Whole x
+whole-halves {x} {n} h e = record { fits = rw (val-of e) h; whole = rw (val-of e) e }
+
+pub checked-fits : {x : Uint128} {n : ℕ} → n < limit → x ≡ halves n → Some x ≡ checked n
+unfolding checked
+checked-fits {x} {n} h e = simp (lt-ltb n limit h) (ap Some e)
+
+pub checked-large : {n : ℕ} → limit ≤ n → None ≡ checked n
+unfolding checked
+checked-large {n} h = simp (le-ltb n limit h)
+
+pub tenths-quotient : (n : ℕ) → tenths n .quotient ≡ halves (n / 10)
+unfolding tenths
+tenths-quotient n = refl
+
+pub tenths-digit : (n : ℕ) → tenths n .digit ≡ n % 10
+unfolding tenths
+tenths-digit n = refl
+
+pub order-is : {o : Ordering} (a b : ℕ) → o ≡ orderOf a b → OrderFact o a b
+order-is a b e = rw e (order-fact a b)
+
+pub digit-below : (n : ℕ) (d : Divided) → d ≡ tenths n → d .digit < 10
+digit-below n d e = rw (e, tenths-digit n) (omega arith)

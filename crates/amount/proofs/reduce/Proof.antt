@@ -1,0 +1,53 @@
+use Rattle.amount.proofs.Scaling.{reduce-start, reduce-none, places-none}
+use Rattle.amount.specs.Amounts.{ReducedBy}
+use Rattle.amount.specs.Numbers.{val}
+use Prim.Native.Nat.{_+_, _-_, _≤_}
+use borrow.Author.Needs.{needs}
+use native.Mathlib.Omega.{arith}
+use Rattle.amount.proofs.reduce.Statement.{statement}
+use Rattle.amount.proofs.reduce.Tie as tie
+
+abbrev Inv-loop : tie.InvT-loop
+Inv-loop places r₀ left₀ r left = (left ≤ places) × ReducedBy (val (r₀ .quotient)) (places - left) r
+
+abbrev μ-loop : tie.MeasureT-loop
+μ-loop places r₀ left₀ r left = left
+
+loop-holds : tie.Need-loop-holds Inv-loop μ-loop
+loop-holds c = (search needs, places-none (omega arith) (reduce-start _))
+
+is-zero-requires : tie.Need-is-zero-requires Inv-loop μ-loop
+is-zero-requires c κs = search needs
+
+returns : tie.Need-returns Inv-loop μ-loop
+returns c = reduce-none _ (omega arith) (c .before .before .before .before .loop .inv .1) (c .before .is-zero .ensures) (c .if1 .taken)
+
+reduce-once-requires : tie.Need-reduce-once-requires Inv-loop μ-loop
+reduce-once-requires c κs = search needs
+
+sub-left : tie.Need-sub-left Inv-loop μ-loop
+sub-left c = search needs
+
+loop-less : tie.Need-loop-less Inv-loop μ-loop
+loop-less c = search needs
+
+loop-again : tie.Need-loop-again Inv-loop μ-loop
+loop-again c = (search needs, places-none (omega arith) (c .reduce-once .ensures _ _ (c .before .before .before .before .before .loop .inv .1)))
+
+returns-2 : tie.Need-returns-2 Inv-loop μ-loop
+returns-2 c = places-none (omega arith) (c .before .loop .inv .1)
+
+pub reduce-spec : {M : Type 1} → statement M
+reduce-spec =
+    tie.close
+    (tie.spec
+    Inv-loop
+    μ-loop
+    loop-holds
+    is-zero-requires
+    returns
+    reduce-once-requires
+    sub-left
+    loop-less
+    loop-again
+    returns-2)

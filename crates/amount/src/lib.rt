@@ -1,0 +1,255 @@
+// Exact decimal amounts: a mantissa of 128 bits and a scale, the port of amount.rs.
+// The value is mantissa / 10^scale. Every scale of a byte is taken; the Rust's constructors stop at 18.
+ghost use mathlib.Core.Path.{_≡_};
+ghost use Prim.Native.Nat.{ℕ, _+_, _*_, _^_, max};
+ghost use lib.Dec.{eqb};
+ghost use Rattle.amount.specs.Numbers.{val, checked, orderOf};
+ghost use Rattle.amount.specs.Amounts.{answerOf, refusedOf, readOf, compareOf, minOf, sumOf, differenceOf, ReducedBy, reverseOf};
+
+mod text;
+mod uint128;
+
+pub use text::Text;
+use uint128::Checked;
+pub use uint128::Ordering;
+pub use uint128::Uint128;
+
+// The longest text that is read, in bytes: 2^128 - 1 has 39 digits.
+pub const MAX_MANTISSA_DIGITS: usize = 39;
+
+#[repr(C)]
+pub struct Amount {
+    pub mantissa: Uint128,
+    pub scale: u8,
+}
+
+// An amount, or why there is none.
+pub enum AmountResult {
+    Ok(Amount),
+    NotWhole,
+    Overflow,
+    Underflow,
+}
+
+// The same for a caller that goes by numbers: 0 and the amount, or the refusal's number and `ZERO`.
+#[repr(C)]
+pub struct Given {
+    pub number: u8,
+    pub amount: Amount,
+}
+
+impl AmountResult {
+    pub fn given(self) -> Given
+        ensures { λ r. ⌜ r ≡ answerOf self ⌝ }
+    {
+        match self {
+            AmountResult::Ok(amount) => Given { number: 0, amount },
+            AmountResult::NotWhole => refused(10),
+            AmountResult::Overflow => refused(17),
+            AmountResult::Underflow => refused(18),
+        }
+    }
+}
+
+impl Amount {
+    pub const ZERO: Amount = Amount {
+        mantissa: Uint128 { hi: 0, lo: 0 },
+        scale: 0,
+    };
+
+    pub fn is_zero(self) -> bool
+        ensures { λ r. ⌜ r ≡ eqb (val (self .mantissa)) 0 ⌝ }
+    {
+        let m = self.mantissa;
+        m.is_zero()
+    }
+
+    // Reads a whole number: 1 to 39 digits and nothing else.
+    pub fn try_from_str(text: &[u8]) -> AmountResult
+        ensures { λ r. ⌜ r ≡ readOf (now (text .entry)) ⌝ }
+    {
+        if text.len() == 0 {
+            return AmountResult::NotWhole;
+        }
+        if MAX_MANTISSA_DIGITS < text.len() {
+            return AmountResult::NotWhole;
+        }
+        let mut mantissa = Uint128::ZERO;
+        let mut i = 0;
+        while i < text.len() {
+            let byte = text[i];
+            if byte < b'0' {
+                return AmountResult::NotWhole;
+            }
+            if b'9' < byte {
+                return AmountResult::NotWhole;
+            }
+            let Checked::Some(next) = mantissa.times_ten_plus(byte - b'0') else {
+                return AmountResult::NotWhole;
+            };
+            mantissa = next;
+            i += 1;
+        }
+        AmountResult::Ok(Amount { mantissa, scale: 0 })
+    }
+
+    // The order of the values. The finer mantissa is divided and none is multiplied, so nothing overflows.
+    pub fn cmp(self, other: Amount) -> Ordering
+        ensures { λ r. ⌜ r ≡ compareOf self other ⌝ }
+    {
+        let left = self.mantissa;
+        let right = other.mantissa;
+        if self.scale <= other.scale {
+            return beside(left, reduce(right, other.scale - self.scale));
+        }
+        reverse(beside(right, reduce(left, self.scale - other.scale)))
+    }
+
+    // The lesser by value; on a tie `other`.
+    pub fn min(self, other: Amount) -> Amount
+        ensures { λ r. ⌜ r ≡ minOf self other ⌝ }
+    {
+        match self.cmp(other) {
+            Ordering::Less => self,
+            Ordering::Equal => other,
+            Ordering::Greater => other,
+        }
+    }
+
+    // The sum at the larger scale.
+    pub fn checked_add(self, other: Amount) -> AmountResult
+        ensures { λ r. ⌜ r ≡ sumOf self other ⌝ }
+    {
+        let scale = larger(self.scale, other.scale);
+        let Checked::Some(left) = rescale(self.mantissa, scale - self.scale) else {
+            return AmountResult::Overflow;
+        };
+        let Checked::Some(right) = rescale(other.mantissa, scale - other.scale) else {
+            return AmountResult::Overflow;
+        };
+        let Checked::Some(mantissa) = left.checked_add(right) else {
+            return AmountResult::Overflow;
+        };
+        AmountResult::Ok(Amount { mantissa, scale })
+    }
+
+    // The difference at the larger scale.
+    pub fn checked_sub(self, other: Amount) -> AmountResult
+        ensures { λ r. ⌜ r ≡ differenceOf self other ⌝ }
+    {
+        let scale = larger(self.scale, other.scale);
+        let Checked::Some(left) = rescale(self.mantissa, scale - self.scale) else {
+            return AmountResult::Underflow;
+        };
+        let Checked::Some(right) = rescale(other.mantissa, scale - other.scale) else {
+            return AmountResult::Underflow;
+        };
+        let Checked::Some(mantissa) = left.checked_sub(right) else {
+            return AmountResult::Underflow;
+        };
+        AmountResult::Ok(Amount { mantissa, scale })
+    }
+}
+
+// A refusal of this number.
+fn refused(number: u8) -> Given
+    ensures { λ r. ⌜ r ≡ refusedOf number ⌝ }
+{
+    Given {
+        number,
+        amount: Amount::ZERO,
+    }
+}
+
+// The larger of two scales.
+fn larger(a: u8, b: u8) -> u8
+    ensures { λ r. ⌜ r ≡ max a b ⌝ }
+{
+    if a < b { b } else { a }
+}
+
+// A mantissa at a scale that is `places` larger.
+fn rescale(mantissa: Uint128, places: u8) -> Checked
+    ensures { λ r. ⌜ r ≡ checked (val mantissa * 10 ^ places) ⌝ }
+{
+    let mut number = mantissa;
+    let mut left = places;
+    while 0 < left {
+        let Checked::Some(next) = number.times_ten_plus(0) else {
+            return Checked::None;
+        };
+        number = next;
+        left -= 1;
+    }
+    Checked::Some(number)
+}
+
+// A mantissa divided by a power of ten, and whether something was left.
+struct Reduced {
+    quotient: Uint128,
+    rest: bool,
+}
+
+fn reduce(mantissa: Uint128, places: u8) -> Reduced
+    ensures { λ r. ⌜ ReducedBy (val mantissa) places r ⌝ }
+{
+    let mut r = Reduced {
+        quotient: mantissa,
+        rest: false,
+    };
+    let mut left = places;
+    while 0 < left {
+        let quotient = r.quotient;
+        if quotient.is_zero() {
+            return r;
+        }
+        r = reduce_once(r);
+        left -= 1;
+    }
+    r
+}
+
+// One place more.
+fn reduce_once(r: Reduced) -> Reduced
+    ensures { λ s. ⌜ ((n j : ℕ) → ReducedBy n j r → ReducedBy n (j + 1) s) ⌝ }
+{
+    let quotient = r.quotient;
+    let d = quotient.divide_by_ten();
+    let next = d.quotient;
+    if d.digit == 0 {
+        return Reduced {
+            quotient: next,
+            rest: r.rest,
+        };
+    }
+    Reduced {
+        quotient: next,
+        rest: true,
+    }
+}
+
+// How a mantissa stands to one that was divided by a power of ten.
+fn beside(mantissa: Uint128, r: Reduced) -> Ordering
+    ensures { λ o. ⌜ ((n d : ℕ) → ReducedBy n d r → o ≡ orderOf (val mantissa * 10 ^ d) n) ⌝ }
+{
+    match mantissa.cmp(r.quotient) {
+        Ordering::Less => Ordering::Less,
+        Ordering::Equal => {
+            if r.rest {
+                return Ordering::Less;
+            }
+            Ordering::Equal
+        }
+        Ordering::Greater => Ordering::Greater,
+    }
+}
+
+fn reverse(o: Ordering) -> Ordering
+    ensures { λ r. ⌜ r ≡ reverseOf o ⌝ }
+{
+    match o {
+        Ordering::Less => Ordering::Greater,
+        Ordering::Equal => Ordering::Equal,
+        Ordering::Greater => Ordering::Less,
+    }
+}

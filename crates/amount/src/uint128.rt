@@ -1,0 +1,171 @@
+// Unsigned 128-bit numbers as two 64-bit halves: what `u128` is in the Rust.
+ghost use mathlib.Core.Path.{_≡_};
+ghost use Prim.Native.Nat.{_+_, _*_, _^_, _<_};
+ghost use lib.Dec.{eqb};
+ghost use Rattle.amount.specs.Numbers.{val, orderOf, checked, difference, tenths};
+
+#[repr(C)]
+pub struct Uint128 {
+    pub hi: u64,
+    pub lo: u64,
+}
+
+// How one value stands to another.
+pub enum Ordering {
+    Less,
+    Equal,
+    Greater,
+}
+
+// A number, or none where it would lie outside 0 to 2^128 - 1.
+pub enum Checked {
+    Some(Uint128),
+    None,
+}
+
+// A quotient by ten, and the digit that is left.
+pub struct Divided {
+    pub quotient: Uint128,
+    pub digit: u8,
+}
+
+impl Uint128 {
+    pub const ZERO: Uint128 = Uint128 { hi: 0, lo: 0 };
+
+    pub fn is_zero(self) -> bool
+        ensures { λ r. ⌜ r ≡ eqb (val self) 0 ⌝ }
+    {
+        if self.hi == 0 { self.lo == 0 } else { false }
+    }
+
+    pub fn cmp(self, other: Uint128) -> Ordering
+        ensures { λ r. ⌜ r ≡ orderOf (val self) (val other) ⌝ }
+    {
+        if self.hi < other.hi {
+            return Ordering::Less;
+        }
+        if other.hi < self.hi {
+            return Ordering::Greater;
+        }
+        if self.lo < other.lo {
+            return Ordering::Less;
+        }
+        if other.lo < self.lo {
+            return Ordering::Greater;
+        }
+        Ordering::Equal
+    }
+
+    pub fn checked_add(self, other: Uint128) -> Checked
+        ensures { λ r. ⌜ r ≡ checked (val self + val other) ⌝ }
+    {
+        let room = u64::MAX - other.lo;
+        if self.lo <= room {
+            return joined(self.hi, other.hi, 0, self.lo + other.lo);
+        }
+        joined(self.hi, other.hi, 1, self.lo - room - 1)
+    }
+
+    pub fn checked_sub(self, other: Uint128) -> Checked
+        ensures { λ r. ⌜ r ≡ difference (val self) (val other) ⌝ }
+    {
+        if self.hi < other.hi {
+            return Checked::None;
+        }
+        let hi = self.hi - other.hi;
+        if other.lo <= self.lo {
+            return Checked::Some(Uint128 {
+                hi,
+                lo: self.lo - other.lo,
+            });
+        }
+        if hi == 0 {
+            return Checked::None;
+        }
+        Checked::Some(Uint128 {
+            hi: hi - 1,
+            lo: u64::MAX - other.lo + self.lo + 1,
+        })
+    }
+
+    // Ten times the number, and a digit.
+    pub fn times_ten_plus(self, digit: u8) -> Checked
+        ensures { λ r. ⌜ r ≡ checked (val self * 10 + digit) ⌝ }
+    {
+        let low = ten_times(self.lo, digit as u32);
+        let high = ten_times(self.hi, low.carry);
+        if 0 < high.carry {
+            return Checked::None;
+        }
+        Checked::Some(Uint128 {
+            hi: high.low,
+            lo: low.low,
+        })
+    }
+
+    // The tenth of the number, and its last digit.
+    pub fn divide_by_ten(self) -> Divided
+        ensures { λ r. ⌜ r ≡ tenths (val self) ⌝ }
+    {
+        let high = by_ten(0, self.hi);
+        let low = by_ten(high.rest, self.lo);
+        Divided {
+            quotient: Uint128 {
+                hi: high.quotient,
+                lo: low.quotient,
+            },
+            digit: low.rest as u8,
+        }
+    }
+}
+
+// A number whose lower half is given, and whose upper half is a sum.
+fn joined(a: u64, b: u64, carry: u64, lo: u64) -> Checked
+    ensures { λ r. ⌜ r ≡ checked ((a + b + carry) * 2 ^ 64 + lo) ⌝ }
+{
+    if u64::MAX - a < b {
+        return Checked::None;
+    }
+    let hi = a + b;
+    if u64::MAX - carry < hi {
+        return Checked::None;
+    }
+    Checked::Some(Uint128 { hi: hi + carry, lo })
+}
+
+// A word, and what passes it.
+struct Wide {
+    carry: u32,
+    low: u64,
+}
+
+// Ten times a word and a number more, by halves of the word, so that no product leaves 64 bits.
+fn ten_times(x: u64, add: u32) -> Wide
+    ensures { λ r. ⌜ r .carry * 2 ^ 64 + r .low ≡ x * 10 + add ⌝ }
+{
+    let first = (x % 0x1_0000_0000) * 10 + add as u64;
+    let second = (x / 0x1_0000_0000) * 10 + first / 0x1_0000_0000;
+    Wide {
+        carry: (second / 0x1_0000_0000) as u32,
+        low: (second % 0x1_0000_0000) * 0x1_0000_0000 + first % 0x1_0000_0000,
+    }
+}
+
+// A word divided by ten, and what is left.
+struct Tenth {
+    quotient: u64,
+    rest: u64,
+}
+
+// The tenth of a word with a digit before it, by halves of the word.
+fn by_ten(digit: u64, x: u64) -> Tenth
+    requires { ⌜ digit < 10 ⌝ }
+    ensures { λ r. ⌜ (digit * 2 ^ 64 + x ≡ r .quotient * 10 + r .rest) × (r .rest < 10) × (r .quotient < 2 ^ 64) ⌝ }
+{
+    let high = digit * 0x1_0000_0000 + x / 0x1_0000_0000;
+    let low = (high % 10) * 0x1_0000_0000 + x % 0x1_0000_0000;
+    Tenth {
+        quotient: (high / 10) * 0x1_0000_0000 + low / 10,
+        rest: low % 10,
+    }
+}
