@@ -1,25 +1,18 @@
 -- Laws of the whole canonical text: its length, and the bytes that it is put together from.
-use Prim.Native.Nat.{ℕ, zero, suc, _+_, _-_, _*_, _/_, _%_, _^_, _<_, _≤_}
+use Prim.Native.Nat.{ℕ, zero, suc, _+_, _-_, _*_, _/_, _^_, _<_, _≤_}
 use mathlib.Core.Path.{_≡_, refl, ap, sym, _∙_}
 use Prim.{absurd}
-use mathlib.Core.Logic.{_⊎_, inl, inr, ⊎-elim}
-use mathlib.Core.Bool.{Bool, true, false}
-use mathlib.Core.List.{List, [], _∷_, _++_, append-assoc, append-nil}
-use native.Mathlib.Numerals.{add-one}
+use mathlib.Core.Logic.{⊎-elim}
+use mathlib.Core.List.{List, _∷_, _++_, append-assoc}
 use native.Mathlib.Omega.{arith}
-use native.Mathlib.Nat.{le-trans, mul-le-mul-right, div-mul-le-self, pow-le-pow-right, eq-zero-or-pos, sub-self, le-refl, lt-of-le-of-lt, not-le-of-lt}
-use borrow.Author.Tests.{lt-ltb, le-ltb, eq-eqb, ne-eqb, ltb-true, ltb-false}
+use native.Mathlib.Nat.{mul-le-mul-right, div-mul-le-self, pow-le-pow-right, eq-zero-or-pos, sub-self, lt-of-le-of-lt, not-le-of-lt, div-one}
 use lib.Pow.{pow-add}
-use lib.Dec.{ltb, eqb, lit<, lit≤}
-use lib.ListN.{length, replicate, length-append, length-replicate, replicate-append-replicate}
-use Rattle.amount.specs.Numbers.{val, limit, halves}
-use Rattle.amount.specs.declared.uint128.Uint128.{Uint128}
-use Rattle.amount.specs.Amounts.{ReducedBy}
+use lib.Dec.{lit≤}
+use lib.ListN.{length, replicate, length-append, replicate-append-replicate}
+use Rattle.amount.specs.Numbers.{val, limit}
 use Rattle.amount.specs.Canonical.{strip, lastDigits, widthUpTo, widthOf, wholeText, decimalText, canonicalText, zeros, textOf}
 use Rattle.amount.specs.declared.Amount.{Amount}
-use Rattle.amount.specs.declared.Reduced.{Reduced}
-use Rattle.amount.specs.declared.text.Text.{Text}
-use Rattle.amount.proofs.Scaling.{ten-more, ten-pos}
+use Rattle.amount.proofs.Widths.{below-or-not, width-stop, width-bounds, width-lower}
 
 pub zeros-split : (a b : ℕ) → a ≤ b → zeros b ≡ zeros a ++ zeros (b - a)
 unfolding zeros
@@ -31,48 +24,10 @@ zeros-none : (a : ℕ) (l : List ℕ) → zeros (a - a) ++ l ≡ l
 unfolding zeros
 zeros-none a l = rw (sub-self a)
 
-length-digits : (k n : ℕ) → length (lastDigits k n) ≡ k
+pub length-digits : (k n : ℕ) → length (lastDigits k n) ≡ k
 unfolding lastDigits
 length-digits zero n = refl
 length-digits (suc k) n = ap suc (length-digits k n)
-
--- a number has at most k + 1 digits, and at least as many as make it no smaller
-width-case : (k n : ℕ) → n < 10 → widthUpTo (suc k) n ≡ 1
-unfolding widthUpTo
-width-case k n h = rw (lt-ltb n 10 h)
-
-width-case' : (k n : ℕ) → 10 ≤ n → widthUpTo (suc k) n ≡ suc (widthUpTo k (n / 10))
-unfolding widthUpTo
-width-case' k n h = rw (le-ltb n 10 h)
-
-split : (t : Bool) (a b : ℕ) → ltb a b ≡ t → (a < b) ⊎ (b ≤ a)
-split true a b e = inl (ltb-true a b e)
-split false a b e = inr (ltb-false a b e)
-
-split-ten : (n : ℕ) → (n < 10) ⊎ (10 ≤ n)
-split-ten n = split (ltb n 10) n 10 refl
-
-width-bounds : (k n : ℕ) → (1 ≤ widthUpTo k n) × (widthUpTo k n ≤ k + 1)
-unfolding widthUpTo
-width-bounds zero n = (omega arith, omega arith)
-width-bounds (suc k) n =
-    ⊎-elim
-    (λ h. (omega (arith, width-case k n h), omega (arith, width-case k n h)))
-    (λ h. let w = width-bounds k (n / 10) in (omega (arith, width-case' k n h), omega (arith, width-case' k n h)))
-    (split-ten n)
-
-width-lower : (k n : ℕ) → 0 < n → 10 ^ (widthUpTo k n - 1) ≤ n
-unfolding widthUpTo
-width-lower zero n h = h
-width-lower (suc k) n h =
-    ⊎-elim
-    (λ l. rw (width-case k n l) h)
-    (λ l.
-    let i = width-lower k (n / 10) (omega arith) in
-    let b = width-bounds k (n / 10) in
-    let e : suc (widthUpTo k (n / 10)) - 1 ≡ (widthUpTo k (n / 10) - 1) + 1 = omega arith in
-    rw (width-case' k n l, e, ten-more (widthUpTo k (n / 10) - 1)) (omega arith))
-    (split-ten n)
 
 -- the text of an amount has at most 257 bytes
 ten-small : (k : ℕ) → 10 ^ k < limit → k ≤ 38
@@ -82,13 +37,13 @@ ten-small k h =
     (λ l.
     let p : 10 ^ 39 < 2 ^ 128 = lt-of-le-of-lt (pow-le-pow-right {n = 10} (omega arith) l) h in
     absurd (not-le-of-lt p (lit≤ tt)))
-    (split (ltb k 39) k 39 refl)
+    (below-or-not k 39)
 
 pub text-fits : (m s q : ℕ) → m < limit → s ≤ 255 → q ≡ m / 10 ^ s → widthOf q + 1 + s ≤ 257
 unfolding widthOf
 text-fits m s q f g e =
     ⊎-elim
-    (λ z. omega (arith, width-case 37 q (omega arith)))
+    (λ z. omega (arith, width-stop 38 q (omega arith)))
     (λ p.
     let a : 10 ^ (widthUpTo 38 q - 1) * 10 ^ s ≤ q * 10 ^ s = mul-le-mul-right (10 ^ s) (width-lower 38 q p) in
     let b : q * 10 ^ s ≤ m = rw e (div-mul-le-self m (10 ^ s)) in
@@ -106,11 +61,14 @@ text-of t b len e f = rw (f, e)
 
 decimal-whole : (m s q w : ℕ) → s ≡ 0 → q ≡ m / 10 ^ s → w ≡ widthOf q → decimalText m s ≡ lastDigits w q
 unfolding decimalText wholeText
-decimal-whole m s q w z f g = rw (← f, ← g, eq-eqb s 0 z, append-nil (lastDigits w q))
+decimal-whole m s q w z f g =
+    let e : q ≡ m = f ∙ rw z (div-one m) in
+    rw (z, g, e)
 
 decimal-point : (m s q w : ℕ) → (s ≡ 0 → ⊥) → q ≡ m / 10 ^ s → w ≡ widthOf q → decimalText m s ≡ lastDigits w q ++ (46 ∷ lastDigits s m)
 unfolding decimalText wholeText
-decimal-point m s q w z f g = rw (← f, ← g, ne-eqb s 0 z)
+decimal-point m zero q w z f g = absurd (z refl)
+decimal-point m (suc s) q w z f g = rw (g, f)
 
 -- what stands before the fraction, once it is written
 pub before-fraction : {b : List ℕ} (w s : ℕ) (l : List ℕ) → b ≡ zeros (w + 1 + s - s) ++ l → b ≡ zeros (w + 1) ++ l

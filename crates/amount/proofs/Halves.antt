@@ -12,7 +12,6 @@ use Rattle.amount.specs.declared.uint128.Uint128.{Uint128}
 use Rattle.amount.specs.declared.uint128.Divided.{Divided}
 use Rattle.amount.specs.declared.uint128.Ordering.{Ordering}
 use Rattle.amount.specs.declared.uint128.Ordering.the-variants.{Less, Equal, Greater}
-use Rattle.amount.specs.declared.uint128.Checked.{Checked}
 use Rattle.amount.specs.declared.uint128.Checked.the-variants.{Some, None}
 
 pub order-less : (a b : ℕ) → a < b → Less ≡ orderOf a b

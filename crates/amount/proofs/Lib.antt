@@ -5,6 +5,10 @@ pub mod Scaling
 pub mod Multiplying
 pub mod Summing
 pub mod Stripping
+pub mod Widths
 pub mod Writing
 pub mod Assembling
+pub mod Texts
+pub mod Cutting
+pub mod Theorems
 pub mod Edges

@@ -1,16 +1,15 @@
 -- Laws of decimal text, and of what reading one answers.
-use Prim.Native.Nat.{ℕ, suc, _+_, _-_, _*_, _<_, _≤_}
+use Prim.Native.Nat.{ℕ, _+_, _-_, _*_, _<_, _≤_}
 use mathlib.Core.Path.{_≡_, refl, ap, sym, _∙_}
 use mathlib.Core.Bool.{Bool, true, false, cond, _&&_, and-false}
 use mathlib.Core.List.{List, [], _∷_}
 use native.Mathlib.Numerals.{add-one}
 use native.Mathlib.Omega.{arith}
 use native.Mathlib.Nat.{le-trans, le-refl}
-use borrow.Author.Tests.{lt-ltb, le-ltb, le-leb, lt-leb}
-use lib.Dec.{ltb, leb}
+use borrow.Author.Tests.{lt-ltb, le-ltb, le-leb, lt-leb, ltb-true}
+use lib.Dec.{ltb, lit<}
 use lib.ListN.{length, drop, getD}
 use lib.Seq.{drop-cons, drop-length}
-use lib.Dec.{lit<}
 use Rattle.amount.specs.Numbers.{val, limit, halves, checked}
 use Rattle.amount.specs.declared.uint128.Checked.the-variants.{Some, None}
 use Rattle.amount.proofs.Halves.{checked-is, checked-none, val-halves}
@@ -32,6 +31,16 @@ if-large o t m scale h = simp (le-ltb m limit h, and-false)
 pub if-given : (o : AmountResult) (x : Uint128) (m scale : ℕ) → m < limit → x ≡ halves m → Ok (record { mantissa = x; scale = scale }) ≡ amountIf o true m scale
 unfolding amountIf
 if-given o x m scale h e = simp (lt-ltb m limit h) (rw e)
+
+-- what a given amount tells
+if-case : (o : AmountResult) (t u : Bool) (m scale : ℕ) (a : Amount) → ltb m limit ≡ u → (o ≡ Ok a → ⊥) → Ok a ≡ cond (t && u) (Ok (record { mantissa = halves m; scale = scale })) o → (t ≡ true) × (m < limit) × (a ≡ record { mantissa = halves m; scale = scale })
+if-case o true true m scale a e n h = (refl, ltb-true m limit e, cc)
+if-case o true false m scale a e n h = absurd (n (sym h))
+if-case o false u m scale a e n h = absurd (n (sym h))
+
+pub if-is : (o : AmountResult) (t : Bool) (m scale : ℕ) (a : Amount) → (o ≡ Ok a → ⊥) → Ok a ≡ amountIf o t m scale → (t ≡ true) × (m < limit) × (a ≡ record { mantissa = halves m; scale = scale })
+unfolding amountIf
+if-is o t m scale a n h = if-case o t (ltb m limit) m scale a refl n h
 
 module _ (s : List ℕ) where
   pub read-empty : length s ≡ 0 → NotWhole ≡ readOf s

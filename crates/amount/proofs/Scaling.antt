@@ -1,15 +1,15 @@
 -- Laws of scaling by powers of ten: a quotient with what is left, and the order that it shows.
-use Prim.Native.Nat.{ℕ, suc, _+_, _-_, _*_, _/_, _%_, _^_, _<_, _≤_}
-use mathlib.Core.Path.{_≡_, refl, ap, sym, _∙_}
-use mathlib.Core.Bool.{Bool, true, false, not}
+use Prim.Native.Nat.{ℕ, _+_, _-_, _*_, _/_, _%_, _^_, _<_, _≤_}
+use mathlib.Core.Path.{_≡_, ap, sym, _∙_}
+use mathlib.Core.Bool.{Bool, true, false}
 use native.Mathlib.Numerals.{add-one}
 use native.Mathlib.Omega.{arith}
-use native.Mathlib.Nat.{pow-suc, pow-succ', one-le-pow, div-div-eq-div-mul, div-one, mod-one, div-add-mod', mod-lt, mul-le-mul-right, mul-lt-mul-of-pos-right, le-of-eq, mul-one, mul-assoc, mul-comm, add-mul, one-mul, sub-add-cancel, eq-zero-or-pos, lt-of-lt-of-le, pow-le-pow-right, div-eq-of-lt, mod-eq-of-lt}
-use borrow.Author.Tests.{eq-eqb, ne-eqb, eqb-true, eqb-false, not-true, not-false}
+use native.Mathlib.Nat.{pow-suc, pow-succ', one-le-pow, div-div-eq-div-mul, div-one, mod-one, div-add-mod', mod-lt, mul-le-mul-right, mul-lt-mul-of-pos-right, mul-assoc, add-mul, sub-add-cancel, lt-of-lt-of-le, pow-le-pow-right, div-eq-of-lt, mod-eq-of-lt}
+use borrow.Author.Tests.{ne-eqb, eqb-true, eqb-false, not-true, not-false}
 use lib.Arith.{mod-mul}
 use lib.Pow.{pow-add}
 use lib.Dec.{eqb}
-use Rattle.amount.specs.Numbers.{val, limit, halves, orderOf, tenths}
+use Rattle.amount.specs.Numbers.{val, orderOf, tenths}
 use Rattle.amount.specs.declared.uint128.Uint128.{Uint128}
 use Rattle.amount.specs.declared.uint128.Divided.{Divided}
 use Rattle.amount.specs.declared.uint128.Ordering.{Ordering}
@@ -100,7 +100,7 @@ pub order-reversed : (a b : ℕ) → reverseOf (orderOf a b) ≡ orderOf b a
 order-reversed a b = reverse-case (orderOf a b) a b (order-fact a b)
 
 -- 10^d · 10^s at the scales s ≤ t, with d what t has more
-ten-join : (m s t : ℕ) → s ≤ t → m * 10 ^ (t - s) * 10 ^ s ≡ m * 10 ^ t
+pub ten-join : (m s t : ℕ) → s ≤ t → m * 10 ^ (t - s) * 10 ^ s ≡ m * 10 ^ t
 ten-join m s t h =
     rw (mul-assoc m (10 ^ (t - s)) (10 ^ s), ← pow-add 10 (t - s) s, sub-add-cancel h)
 

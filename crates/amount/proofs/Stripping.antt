@@ -1,16 +1,18 @@
--- Laws of the zeros that are taken away from the end, and of the width of a number.
-use Prim.Native.Nat.{ℕ, zero, suc, _+_, _-_, _*_, _/_, _%_, _^_, _<_, _≤_}
-use mathlib.Core.Path.{_≡_, refl, ap, sym, _∙_}
-use mathlib.Core.Bool.{Bool, true, false, not}
-use native.Mathlib.Numerals.{add-one}
+-- Laws of the zeros that are taken away from the end.
+use Prim.Native.Nat.{ℕ, zero, suc, _-_, _*_, _/_, _%_, _^_, _<_, _≤_}
+use mathlib.Core.Path.{_≡_, refl, sym, _∙_}
+use mathlib.Core.Logic.{_⊎_, inl, inr}
+use mathlib.Core.Bool.{Bool, true, false}
 use native.Mathlib.Omega.{arith}
-use borrow.Author.Tests.{lt-ltb, le-ltb, eq-eqb, ne-eqb, eqb-true, eqb-false, ltb-true, ltb-false}
-use lib.Dec.{eqb, ltb}
-use Rattle.amount.specs.Numbers.{val, limit, halves, tenths}
+use native.Mathlib.Nat.{pow-suc, mul-assoc, mul-right-comm}
+use borrow.Author.Tests.{eq-eqb, ne-eqb, eqb-true, eqb-false}
+use lib.Dec.{eqb}
+use Rattle.amount.specs.Numbers.{val, halves, tenths}
 use Rattle.amount.specs.declared.uint128.Uint128.{Uint128}
 use Rattle.amount.specs.declared.uint128.Divided.{Divided}
 use Rattle.amount.proofs.Halves.{Whole, whole-halves, val-of, val-halves, tenths-quotient, tenths-digit}
-use Rattle.amount.specs.Canonical.{strip, widthUpTo, widthOf}
+use Rattle.amount.specs.Canonical.{strip}
+use Rattle.amount.specs.Texts.{Same}
 use Rattle.amount.specs.declared.Amount.{Amount}
 
 strip-stop : (s m : ℕ) → 0 < s → (m % 10 ≡ 0 → ⊥) → strip s m ≡ record { mantissa = halves m; scale = s }
@@ -52,47 +54,36 @@ module _ {first : Amount} {m : Uint128} {s : ℕ} (h : Strips first m s) where
           whole = whole-halves (omega (arith, h .whole .fits)) q;
         }
 
--- the width, digit by digit
-width-stop : (k n : ℕ) → 0 < k → n < 10 → widthUpTo k n ≡ 1
-unfolding widthUpTo
-width-stop zero n h l = refl
-width-stop (suc k) n h l = rw (lt-ltb n 10 l)
+-- what is left has the same value, and no zero at its end that stands after the point
+pub record Lowest (s m : ℕ) (a : Amount) : Type 0 where
+  pub same : Same (val (a .mantissa)) (a .scale) m s
+  pub lowest : (a .scale ≡ 0) ⊎ (val (a .mantissa) % 10 ≡ 0 → ⊥)
+  pub small : val (a .mantissa) ≤ m
+  pub shorter : a .scale ≤ s
 
-width-more : (k n : ℕ) → 0 < k → 10 ≤ n → widthUpTo k n ≡ suc (widthUpTo (k - 1) (n / 10))
-unfolding widthUpTo
-width-more zero n h l = omega arith
-width-more (suc k) n h l =
-    let e : suc k - 1 ≡ k = omega arith in
-    rw (le-ltb n 10 l, e)
+kept : (s m : ℕ) → (s ≡ 0) ⊎ (m % 10 ≡ 0 → ⊥) → Lowest s m (record { mantissa = halves m; scale = s })
+kept s m z =
+    let e = val-halves m in
+    record { same = rw e; lowest = rw e z; small = omega (arith, e); shorter = omega arith }
 
--- `count` digits of n are passed but for one, at most `left` more come, and `rest` is what is left of n
-pub record Counting (n left count : ℕ) (rest : Uint128) : Type 0 where
-  pub room : count + left ≡ 39
-  pub total : widthOf n + 1 ≡ count + widthUpTo left (val rest)
+ten-up : (x y s q : ℕ) → x * 10 ^ s ≡ y * q → x * 10 ^ suc s ≡ y * 10 * q
+ten-up x y s q h = rw (pow-suc 10 s, ← mul-assoc x (10 ^ s) 10, h, mul-right-comm y q 10)
 
-pub counting-none : (n : Uint128) → Counting (val n) 38 1 n
-unfolding widthOf
-counting-none n = record { room = refl; total = omega arith }
+strip-lowest : (t : Bool) (s m : ℕ) → eqb (m % 10) 0 ≡ t → Lowest s (m / 10) (strip s (m / 10)) → Lowest (suc s) m (strip (suc s) m)
+unfolding strip
+strip-lowest true s m e l =
+    let z = eqb-true (m % 10) 0 e in
+    let d : m / 10 * 10 ≡ m = omega (arith, z) in
+    rw e
+    record {
+      same = ten-up _ (m / 10) s _ (l .same) ∙ rw d;
+      lowest = l .lowest;
+      small = omega (arith, l .small);
+      shorter = omega (arith, l .shorter);
+    }
+strip-lowest false s m e l = rw e (kept (suc s) m (inr (eqb-false (m % 10) 0 e)))
 
-module _ {n left count : ℕ} {rest : Uint128} (h : Counting n left count rest) where
-  pub counting-end : left ≤ 0 → count ≡ widthOf n
-  unfolding widthUpTo
-  counting-end l =
-      let e : left ≡ 0 = omega arith in
-      let t : widthOf n + 1 ≡ count + 1 = h .total ∙ rw e in
-      omega arith
-
-  module _ (l : 0 < left) (d : Divided) (e : d ≡ tenths (val rest)) where
-    next-is : val (d .quotient) ≡ val rest / 10
-    next-is = rw (e, tenths-quotient (val rest), val-halves (val rest / 10))
-
-    pub counting-stop : {t : Bool} → t ≡ eqb (val (d .quotient)) 0 → t ≡ true → count ≡ widthOf n
-    counting-stop f g =
-        let z = eqb-true (val (d .quotient)) 0 (sym f ∙ g) in
-        omega (arith, h .total, width-stop left (val rest) l (omega (arith, z, next-is)))
-
-    pub counting-more : {t : Bool} → t ≡ eqb (val (d .quotient)) 0 → t ≡ false → Counting n (left - 1) (count + 1) (d .quotient)
-    counting-more f g =
-        let z = eqb-false (val (d .quotient)) 0 (sym f ∙ g) in
-        let w = width-more left (val rest) l (omega (arith, z, next-is)) in
-        record { room = omega (arith, h .room); total = rw next-is (omega (arith, h .total, w)) }
+pub stripped-lowest : (s m : ℕ) → Lowest s m (strip s m)
+unfolding strip
+stripped-lowest zero m = kept 0 m (inl refl)
+stripped-lowest (suc s) m = strip-lowest (eqb (m % 10) 0) s m refl (stripped-lowest s (m / 10))

@@ -1,20 +1,16 @@
 -- Laws of the canonical text: stripped zeros, the width of a number, digits written from the back.
-use Prim.Native.Nat.{ℕ, zero, suc, _+_, _-_, _*_, _/_, _%_, _^_, _<_, _≤_}
-use mathlib.Core.Path.{_≡_, refl, ap, sym, _∙_}
-use mathlib.Core.Bool.{Bool, true, false, not}
-use mathlib.Core.List.{List, [], _∷_, _++_, append-assoc}
+use Prim.Native.Nat.{ℕ, zero, suc, _+_, _-_, _/_, _%_, _^_, _<_}
+use mathlib.Core.Path.{_≡_, refl, ap, sym}
+use mathlib.Core.List.{List, _∷_, _++_}
 use native.Mathlib.Numerals.{add-one}
 use native.Mathlib.Omega.{arith}
-use native.Mathlib.Nat.{div-div-eq-div-mul, div-one, add-zero}
-use borrow.Author.Tests.{lt-ltb, le-ltb, eq-eqb, ne-eqb, eqb-true, eqb-false, ltb-true, ltb-false}
-use lib.Dec.{eqb, ltb}
-use lib.ListN.{length, replicate, set, length-append, length-replicate}
-use Rattle.amount.specs.Numbers.{val, limit, halves, tenths}
+use native.Mathlib.Nat.{div-div-eq-div-mul, div-one}
+use lib.ListN.{replicate, set}
+use Rattle.amount.specs.Numbers.{val, tenths}
 use Rattle.amount.specs.declared.uint128.Uint128.{Uint128}
 use Rattle.amount.specs.declared.uint128.Divided.{Divided}
-use Rattle.amount.proofs.Halves.{Whole, whole-halves, val-of, val-halves, tenths-quotient, tenths-digit}
-use Rattle.amount.specs.Canonical.{strip, lastDigits, widthUpTo, widthOf, zeros}
-use Rattle.amount.specs.declared.Amount.{Amount}
+use Rattle.amount.proofs.Halves.{val-halves, tenths-quotient, tenths-digit}
+use Rattle.amount.specs.Canonical.{lastDigits, zeros}
 use Rattle.amount.proofs.Scaling.{ten-more}
 
 -- a store in front of what is written, into zeros

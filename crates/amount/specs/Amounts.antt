@@ -1,7 +1,7 @@
 -- Reading, order, sum and difference: document 01's section "Amount".
 -- An amount's value is mantissa / 10^scale, so a ≤ b is a's mantissa · 10^(b's scale) ≤ b's mantissa · 10^(a's scale).
 use Prim.Native.Nat.{ℕ, _+_, _-_, _*_, _/_, _%_, _^_, max}
-use mathlib.Core.Bool.{Bool, true, false, cond, _&&_, not}
+use mathlib.Core.Bool.{Bool, true, cond, _&&_, not}
 use mathlib.Core.List.{List}
 use mathlib.Core.Path.{_≡_}
 use lib.Dec.{ltb, leb, eqb}
@@ -13,6 +13,8 @@ use Rattle.amount.specs.declared.uint128.Ordering.the-variants.{Less, Eq
 use Rattle.amount.specs.declared.Amount.{Amount}
 use Rattle.amount.specs.declared.Given.{Given}
 use Rattle.amount.specs.declared.Reduced.{Reduced}
+use Rattle.amount.specs.declared.Aligned.{Aligned}
+use Rattle.amount.specs.declared.Aligned.the-variants.{At, Outside}
 use Rattle.amount.specs.declared.AmountResult.{AmountResult}
 use Rattle.amount.specs.declared.AmountResult.the-variants.{Ok, NotWhole, Overflow, Underflow}
 
@@ -67,7 +69,14 @@ answerOf NotWhole = refusedOf 10
 answerOf Overflow = refusedOf 17
 answerOf Underflow = refusedOf 18
 
--- For the private helpers of `cmp`.
+-- For the private helpers.
+
+-- both mantissas at the larger scale, where 128 bits hold them
+unfoldable pub alignedOf : Amount → Amount → Aligned
+alignedOf a b =
+    cond (ltb (mantissaAt a (commonScale a b)) limit && ltb (mantissaAt b (commonScale a b)) limit)
+    (At (record { left = halves (mantissaAt a (commonScale a b)); right = halves (mantissaAt b (commonScale a b)); scale = commonScale a b }))
+    Outside
 
 -- r is n divided by 10^d, and whether something was left
 pub record ReducedBy (n d : ℕ) (r : Reduced) : Type 0 where

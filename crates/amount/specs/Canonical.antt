@@ -1,5 +1,5 @@
 -- The canonical decimal text of an amount: no trailing zero after the point, no bare point, `0` before a leading point.
-use Prim.Native.Nat.{ℕ, zero, suc, _+_, _-_, _*_, _/_, _%_, _^_}
+use Prim.Native.Nat.{ℕ, zero, suc, _+_, _-_, _/_, _%_, _^_}
 use mathlib.Core.Bool.{cond}
 use mathlib.Core.List.{List, [], _∷_, _++_}
 use lib.Dec.{ltb, eqb}
@@ -8,7 +8,7 @@ use Rattle.amount.specs.Numbers.{val, halves}
 use Rattle.amount.specs.declared.Amount.{Amount}
 use Rattle.amount.specs.declared.text.Text.{Text}
 
--- m at a scale, with the zeros at its end that stand after the point taken away
+-- mantissa m at a scale, with the zeros at its end that stand after the point taken away
 unfoldable pub strip : ℕ → ℕ → Amount
 strip zero m = record { mantissa = halves m; scale = 0 }
 strip (suc s) m = cond (eqb (m % 10) 0) (strip s (m / 10)) (record { mantissa = halves m; scale = suc s })
@@ -31,12 +31,18 @@ widthOf n = widthUpTo 38 n
 unfoldable pub wholeText : ℕ → List ℕ
 wholeText n = lastDigits (widthOf n) n
 
--- m / 10^s in decimal, with s digits after the point
+-- m / 10^s in decimal: the whole part, and behind a point s digits more
 unfoldable pub decimalText : ℕ → ℕ → List ℕ
-decimalText m s = wholeText (m / 10 ^ s) ++ cond (eqb s 0) [] (46 ∷ lastDigits s m)
+decimalText m zero = wholeText m
+decimalText m (suc s) = wholeText (m / 10 ^ suc s) ++ (46 ∷ lastDigits (suc s) m)
 
+-- the same value with no zero at its end after the point
+abbrev pub lowest : Amount → Amount
+lowest a = strip (a .scale) (val (a .mantissa))
+
+-- the text of an amount
 unfoldable pub canonicalText : Amount → List ℕ
-canonicalText a = decimalText (val (strip (a .scale) (val (a .mantissa)) .mantissa)) (strip (a .scale) (val (a .mantissa)) .scale)
+canonicalText a = decimalText (val (lowest a .mantissa)) (lowest a .scale)
 
 unfoldable pub zeros : ℕ → List ℕ
 zeros n = replicate n 0

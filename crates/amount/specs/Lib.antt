@@ -3,3 +3,4 @@ pub mod Numbers
 pub mod Decimal
 pub mod Amounts
 pub mod Canonical
+pub mod Texts

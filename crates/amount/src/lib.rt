@@ -4,7 +4,7 @@ ghost use mathlib.Core.Path.{_≡_};
 ghost use Prim.Native.Nat.{ℕ, _+_, _*_, _^_, max};
 ghost use lib.Dec.{eqb};
 ghost use Rattle.amount.specs.Numbers.{val, checked, orderOf};
-ghost use Rattle.amount.specs.Amounts.{answerOf, refusedOf, readOf, compareOf, minOf, sumOf, differenceOf, ReducedBy, reverseOf};
+ghost use Rattle.amount.specs.Amounts.{answerOf, refusedOf, readOf, compareOf, minOf, sumOf, differenceOf, alignedOf, ReducedBy, reverseOf};
 
 mod text;
 mod uint128;
@@ -120,34 +120,34 @@ impl Amount {
     pub fn checked_add(self, other: Amount) -> AmountResult
         ensures { λ r. ⌜ r ≡ sumOf self other ⌝ }
     {
-        let scale = larger(self.scale, other.scale);
-        let Checked::Some(left) = rescale(self.mantissa, scale - self.scale) else {
+        let Aligned::At(pair) = align(self, other) else {
             return AmountResult::Overflow;
         };
-        let Checked::Some(right) = rescale(other.mantissa, scale - other.scale) else {
+        let left = pair.left;
+        let Checked::Some(mantissa) = left.checked_add(pair.right) else {
             return AmountResult::Overflow;
         };
-        let Checked::Some(mantissa) = left.checked_add(right) else {
-            return AmountResult::Overflow;
-        };
-        AmountResult::Ok(Amount { mantissa, scale })
+        AmountResult::Ok(Amount {
+            mantissa,
+            scale: pair.scale,
+        })
     }
 
     // The difference at the larger scale.
     pub fn checked_sub(self, other: Amount) -> AmountResult
         ensures { λ r. ⌜ r ≡ differenceOf self other ⌝ }
     {
-        let scale = larger(self.scale, other.scale);
-        let Checked::Some(left) = rescale(self.mantissa, scale - self.scale) else {
+        let Aligned::At(pair) = align(self, other) else {
             return AmountResult::Underflow;
         };
-        let Checked::Some(right) = rescale(other.mantissa, scale - other.scale) else {
+        let left = pair.left;
+        let Checked::Some(mantissa) = left.checked_sub(pair.right) else {
             return AmountResult::Underflow;
         };
-        let Checked::Some(mantissa) = left.checked_sub(right) else {
-            return AmountResult::Underflow;
-        };
-        AmountResult::Ok(Amount { mantissa, scale })
+        AmountResult::Ok(Amount {
+            mantissa,
+            scale: pair.scale,
+        })
     }
 }
 
@@ -159,6 +159,32 @@ fn refused(number: u8) -> Given
         number,
         amount: Amount::ZERO,
     }
+}
+
+// Two mantissas at one scale.
+struct Pair {
+    left: Uint128,
+    right: Uint128,
+    scale: u8,
+}
+
+enum Aligned {
+    At(Pair),
+    Outside,
+}
+
+// Both mantissas at the larger scale, where 128 bits hold them.
+fn align(a: Amount, b: Amount) -> Aligned
+    ensures { λ r. ⌜ r ≡ alignedOf a b ⌝ }
+{
+    let scale = larger(a.scale, b.scale);
+    let Checked::Some(left) = rescale(a.mantissa, scale - a.scale) else {
+        return Aligned::Outside;
+    };
+    let Checked::Some(right) = rescale(b.mantissa, scale - b.scale) else {
+        return Aligned::Outside;
+    };
+    Aligned::At(Pair { left, right, scale })
 }
 
 // The larger of two scales.

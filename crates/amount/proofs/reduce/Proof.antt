@@ -1,7 +1,7 @@
 use Rattle.amount.proofs.Scaling.{reduce-start, reduce-none, places-none}
 use Rattle.amount.specs.Amounts.{ReducedBy}
 use Rattle.amount.specs.Numbers.{val}
-use Prim.Native.Nat.{_+_, _-_, _≤_}
+use Prim.Native.Nat.{_-_, _≤_}
 use borrow.Author.Needs.{needs}
 use native.Mathlib.Omega.{arith}
 use Rattle.amount.proofs.reduce.Statement.{statement}

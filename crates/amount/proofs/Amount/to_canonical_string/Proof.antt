@@ -3,7 +3,6 @@ use Rattle.amount.proofs.Assembling.{zeros-split, text-fits, width-few,
 use Rattle.amount.specs.Canonical.{zeros}
 use Rattle.amount.proofs.Halves.{whole-of}
 use Rattle.amount.specs.Numbers.{val}
-use mathlib.Core.Path.{refl}
 use native.Mathlib.Omega.{arith}
 use borrow.Author.Needs.{needs}
 use Rattle.amount.proofs.Amount.to_canonical_string.Statement.{statement}

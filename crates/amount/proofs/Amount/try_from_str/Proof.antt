@@ -2,7 +2,6 @@ use Rattle.amount.proofs.Reading.{Reading, read-empty, read-long, start
 use lib.ListN.{length}
 use Prim.Native.Nat.{_-_}
 use mathlib.Core.Path.{_∙_, sym}
-use lib.ListN.{length, drop, getD}
 use borrow.Author.Needs.{needs}
 use native.Mathlib.Omega.{arith}
 use Rattle.amount.proofs.Amount.try_from_str.Statement.{statement}

@@ -1,6 +1,5 @@
 use Rattle.amount.proofs.Writing.{Writing, writing-none, writing-more, writing-all}
 use Rattle.amount.proofs.Halves.{digit-below}
-use Rattle.amount.proofs.Writing.{Writing, writing-none, writing-more}
 use Rattle.amount.specs.Numbers.{val}
 use Prim.Native.Nat.{_-_, _≤_}
 use borrow.Author.Needs.{needs}

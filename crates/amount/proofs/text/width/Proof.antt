@@ -1,4 +1,4 @@
-use Rattle.amount.proofs.Stripping.{Counting, counting-none, counting-end, counting-stop, counting-more}
+use Rattle.amount.proofs.Widths.{Counting, counting-none, counting-end, counting-stop, counting-more}
 use Rattle.amount.specs.Numbers.{val}
 use borrow.Author.Needs.{needs}
 use native.Mathlib.Omega.{arith}

@@ -1,7 +1,4 @@
 use Rattle.amount.proofs.Halves.{tenths-of, tenth-halves, zero-first}
-use Rattle.amount.proofs.Halves.{tenths-of, tenth-halves}
-use Rattle.amount.specs.Numbers.{val}
-use native.Mathlib.Omega.{arith}
 use borrow.Author.Needs.{needs}
 use Rattle.amount.proofs.uint128.Uint128.divide_by_ten.Statement.{statement}
 use Rattle.amount.proofs.uint128.Uint128.divide_by_ten.Tie as tie

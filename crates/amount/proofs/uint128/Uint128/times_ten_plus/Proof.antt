@@ -1,8 +1,6 @@
 use Rattle.amount.proofs.Halves.{checked-number, checked-outside, ten-halves, no-carry, carry-past}
-use Rattle.amount.proofs.Halves.{checked-number, checked-outside, ten-halves}
 use Rattle.amount.specs.Numbers.{val}
 use Prim.Native.Nat.{_+_, _*_, _^_}
-use mathlib.Core.Path.{_∙_, refl}
 use native.Mathlib.Omega.{arith}
 use borrow.Author.Needs.{needs}
 use Rattle.amount.proofs.uint128.Uint128.times_ten_plus.Statement.{statement}
