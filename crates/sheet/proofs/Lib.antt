@@ -3,3 +3,9 @@ pub mod Tables
 pub mod Walking
 pub mod Finding
 pub mod Copying
+pub mod Holding
+pub mod Three
+pub mod AmountBytes
+pub mod RoundTrip
+pub mod Visiting
+pub mod Examples

@@ -47,10 +47,10 @@ module _ (shape : Shape) (s : List ℕ) (h : countFits shape (count s) ≡ true)
   unfolding soundAs
   torn-entry e = rw (h, e)
 
-  pub at-end : entriesFit shape s (count s) ≡ true → verdictOf shape s ≡ cond (eqb (bodyAt s (count s)) (length s)) Sound Torn
+  at-end : entriesFit shape s (count s) ≡ true → soundAs shape s ≡ eqb (bodyAt s (count s)) (length s)
   unfolding soundAs
   at-end e = rw (h, e)
 
-pub walk-end : (shape : Shape) (s : List ℕ) (at last k : ℕ) → countFits shape (count s) ≡ true → Walked shape s at last k → k ≡ count s
-    → verdictOf shape s ≡ cond (eqb at (length s)) Sound Torn
-walk-end shape s at last k h w e = at-end shape s h (rw e at (w .fit)) ∙ rw (w .place, e)
+  -- behind the last entry, soundness is that the next body would start at the sheet's end
+  pub walk-end : (at last k : ℕ) → Walked shape s at last k → k ≡ count s → soundAs shape s ≡ eqb at (length s)
+  walk-end at last k w e = at-end (rw e at (w .fit)) ∙ rw (w .place, e)

@@ -59,6 +59,10 @@ fieldOf s Nothing = absent
 unfoldable pub field : List ℕ → ℕ → Field
 field s name = fieldOf s (lookup name (table s))
 
+-- a view that has three names and no other
+abbrev pub three : ℕ → Field → ℕ → Field → ℕ → Field → ℕ → Field
+three a x b y c z name = cond (eqb a name) x (cond (eqb b name) y (cond (eqb c name) z absent))
+
 -- a state: whether there is one, and its fields
 pub record Sight : Type 0 where
   pub there : Bool

@@ -1,4 +1,6 @@
-// What a reader of a sheet finds, by the slice and the number of the next entry.
+// A reader that holds the sheet and the next entry. The borrow checker covers no function over such a struct: those here
+// are proved by hand, so they are few and thin. Each takes the struct apart and calls a covered function on the slice and
+// the number.
 ghost use mathlib.Core.Path.{_≡_};
 ghost use Rattle.sheet.specs.Visit.{stepOf, stepBody, afterOf};
 use super::Entry;
@@ -38,4 +40,48 @@ pub fn body_at(s: &[u8], k: usize) -> &[u8]
         return &s[..0];
     };
     entry_body(s, e)
+}
+
+pub struct Reader<'a> {
+    pub sheet: &'a [u8],
+    pub next: usize,
+}
+
+// A reader before entry 0.
+pub fn new<'a>(sheet: &'a [u8]) -> Reader<'a>
+    ensures { λ r. ⌜ (r .sheet ≡ sheet .entry) × (r .next ≡ 0) ⌝ }
+{
+    Reader { sheet, next: 0 }
+}
+
+// The next entry.
+pub fn entry<'a>(r: Reader<'a>) -> Step
+    ensures { λ s. ⌜ s ≡ stepOf (now (r .entry .sheet)) (r .entry .next) ⌝ }
+{
+    step_at(r.sheet, r.next)
+}
+
+// The next entry's body, as a part of the sheet.
+pub fn body<'a>(r: Reader<'a>) -> &'a [u8]
+    ensures { λ s. ⌜ now s ≡ stepBody (now (r .entry .sheet)) (stepOf (now (r .entry .sheet)) (r .entry .next)) ⌝ }
+{
+    body_at(r.sheet, r.next)
+}
+
+// The reader behind the next entry.
+pub fn rest<'a>(r: Reader<'a>) -> Reader<'a>
+    ensures { λ q. ⌜ (q .sheet ≡ r .entry .sheet) × (q .next ≡ afterOf (r .entry .next)) ⌝ }
+{
+    let next = after(r.next);
+    Reader {
+        sheet: r.sheet,
+        next,
+    }
+}
+
+// The first entry. Its parameter is a plain slice, so whoever calls it needs no walk.
+pub fn first(s: &[u8]) -> Step
+    ensures { λ r. ⌜ r ≡ stepOf (now (s .entry)) 0 ⌝ }
+{
+    entry(new(s))
 }

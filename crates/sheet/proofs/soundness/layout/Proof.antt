@@ -9,7 +9,7 @@ use lib.ListN.{length}
 use lib.Dec.{eqb}
 use Rattle.sheet.specs.declared.Verdict.the-variants.{Sound, Torn}
 use denote.Ref.{now}
-use Rattle.sheet.specs.Sheet.{count, countFits, entriesFit, verdictOf}
+use Rattle.sheet.specs.Sheet.{count, countFits, soundAs}
 use Rattle.sheet.proofs.Walking.{Walked, walk-start, walk-turn, walk-torn, torn-count, torn-entry, walk-end}
 use Rattle.sheet.proofs.soundness.layout.Statement.{statement}
 use Rattle.sheet.proofs.soundness.layout.Tie as tie
@@ -26,9 +26,9 @@ passed c = let f = c .before .count-fits in cc (not-false (f .result) (c .if1 .l
 
 -- the walk's end decides by the last body's end
 ended : (c : tie.After-loop Inv-loop μ-loop)
-    → verdictOf (c .before .before .before .before .before .before .args .shape) (now (c .before .before .before .before .before .before .args .s))
-    ≡ cond (eqb (c .before .loop .at) (length (now (c .before .before .before .before .before .before .args .s)))) Sound Torn
-ended c = walk-end _ _ _ _ _ (passed (c .before .before)) (c .before .loop .inv .2) (omega arith)
+    → soundAs (c .before .before .before .before .before .before .args .shape) (now (c .before .before .before .before .before .before .args .s))
+    ≡ eqb (c .before .loop .at) (length (now (c .before .before .before .before .before .before .args .s)))
+ended c = walk-end _ _ (passed (c .before .before)) _ _ _ (c .before .loop .inv .2) (omega arith)
 
 byte-requires : tie.Need-byte-requires Inv-loop μ-loop
 byte-requires c κs = search needs
@@ -88,10 +88,10 @@ loop-again c =
     )
 
 returns-3 : tie.Need-returns-3 Inv-loop μ-loop
-returns-3 c = sym (ended (c .before) ∙ rw (eq-eqb _ _ (c .if3 .taken)))
+returns-3 c = rw (ended (c .before), eq-eqb _ _ (c .if3 .taken))
 
 returns-4 : tie.Need-returns-4 Inv-loop μ-loop
-returns-4 c = sym (ended (c .before) ∙ rw (ne-eqb _ _ (c .if3 .left)))
+returns-4 c = rw (ended (c .before), ne-eqb _ _ (c .if3 .left))
 
 pub layout-spec : {M : Type 1} → statement M
 layout-spec =
