@@ -18,9 +18,11 @@ pub pasted : (d : List ℕ) (at : ℕ) (src out : List ℕ) (i : ℕ) → i ≡ 
 pasted d at src out i e h = h ∙ rw (e, take-length, append-assoc)
 
 -- src written right behind p: no bound is asked
+behind : (p rest src : List ℕ) (at : ℕ) → at ≡ length p → overlay (p ++ rest) at src ≡ p ++ (src ++ drop (length src) rest)
+behind p rest src at e = rw (e, take-at p rest (length p) refl, drop-append-add)
+
 pub over-next : (p src d : List ℕ) (at : ℕ) → at ≡ length p → overlay (over p d) at src ≡ over (p ++ src) d
-over-next p src d at e =
-    rw (e, take-at p (drop (length p) d) (length p) refl, drop-append-add, drop-drop, length-append, append-assoc)
+over-next p src d at e = behind p _ src at e ∙ rw (drop-drop, length-append, append-assoc)
 
 -- the length of a sheet of three fields
 pub three-length : (f : Form) (x y z : List ℕ) → length (encode (formItems f x y z)) ≡ 19 + length x + length y + length z

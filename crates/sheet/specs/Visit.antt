@@ -3,7 +3,7 @@ use mathlib.Core.Bool.{cond}
 use mathlib.Core.List.{List, [], _∷_}
 use Prim.Native.Nat.{ℕ, zero, suc, _+_}
 use lib.Dec.{ltb}
-use Rattle.sheet.specs.Sheet.{count, entryAt, partOf}
+use Rattle.sheet.specs.Sheet.{count, entryAt}
 use Rattle.sheet.specs.declared.Entry.{Entry}
 use Rattle.sheet.specs.declared.reader.Step.{Step}
 use Rattle.sheet.specs.declared.reader.Step.the-variants.{Next, End}
@@ -11,10 +11,6 @@ use Rattle.sheet.specs.declared.reader.Step.the-variants.{Next, End}
 -- what a reader before entry k finds
 abbrev pub stepOf : List ℕ → ℕ → Step
 stepOf s k = cond (ltb k (count s)) (Next (entryAt s k)) End
-
-abbrev pub stepBody : List ℕ → Step → List ℕ
-stepBody s (Next e) = partOf s e
-stepBody s End = []
 
 -- the entry behind entry k: at most 255, where every sheet has ended
 abbrev pub afterOf : ℕ → ℕ

@@ -2,11 +2,10 @@
 // are proved by hand, so they are few and thin. Each takes the struct apart and calls a covered function on the slice and
 // the number.
 ghost use mathlib.Core.Path.{_≡_};
-ghost use Rattle.sheet.specs.Visit.{stepOf, stepBody, afterOf};
+ghost use Rattle.sheet.specs.Visit.{stepOf, afterOf};
 use super::Entry;
 use super::byte;
 use super::entry_at;
-use super::entry_body;
 
 pub enum Step {
     Next(Entry),
@@ -32,16 +31,6 @@ pub fn after(k: usize) -> usize
     if k < 255 { k + 1 } else { 255 }
 }
 
-// The body of what a reader before entry k finds, as a part of the sheet.
-pub fn body_at(s: &[u8], k: usize) -> &[u8]
-    ensures { λ r. ⌜ now r ≡ stepBody (now (s .entry)) (stepOf (now (s .entry)) k) ⌝ }
-{
-    let Step::Next(e) = step_at(s, k) else {
-        return &s[..0];
-    };
-    entry_body(s, e)
-}
-
 pub struct Reader<'a> {
     pub sheet: &'a [u8],
     pub next: usize,
@@ -54,18 +43,11 @@ pub fn new<'a>(sheet: &'a [u8]) -> Reader<'a>
     Reader { sheet, next: 0 }
 }
 
-// The next entry.
+// The next entry. `sheet::entry_body` gives its body.
 pub fn entry<'a>(r: Reader<'a>) -> Step
     ensures { λ s. ⌜ s ≡ stepOf (now (r .entry .sheet)) (r .entry .next) ⌝ }
 {
     step_at(r.sheet, r.next)
-}
-
-// The next entry's body, as a part of the sheet.
-pub fn body<'a>(r: Reader<'a>) -> &'a [u8]
-    ensures { λ s. ⌜ now s ≡ stepBody (now (r .entry .sheet)) (stepOf (now (r .entry .sheet)) (r .entry .next)) ⌝ }
-{
-    body_at(r.sheet, r.next)
 }
 
 // The reader behind the next entry.

@@ -34,7 +34,7 @@ returns : tie.Need-returns Inv-loop μ-loop
 returns c =
     let b = c .before .before in
     let l = b .before .before in
-    sym (l .loop .inv .1 ∙ lookup-step _ _ _ _ (b .before .loop-test .taken) ∙ rw (← b .entry-at .ensures, eq-eqb _ _ (c .if1 .taken)))
+    sym (l .loop .inv .1 ∙ lookup-step _ _ _ _ (b .before .loop-test .taken) ∙ rw (← b .entry-at .ensures, eq-eqb (b .entry-at .result .name) (l .before .before .before .args .name) (omega arith)))
 
 add-k : tie.Need-add-k Inv-loop μ-loop
 add-k c = search needs
@@ -46,7 +46,7 @@ loop-again : tie.Need-loop-again Inv-loop μ-loop
 loop-again c =
     let b = c .before .before in
     let l = b .before .before in
-    (search needs, l .loop .inv .1 ∙ lookup-step _ _ _ _ (b .before .loop-test .taken) ∙ rw (← b .entry-at .ensures, ne-eqb _ _ (c .if1 .left)))
+    (search needs, l .loop .inv .1 ∙ lookup-step _ _ _ _ (b .before .loop-test .taken) ∙ rw (← b .entry-at .ensures, ne-eqb (b .entry-at .result .name) (l .before .before .before .args .name) (omega arith)))
 
 returns-2 : tie.Need-returns-2 Inv-loop μ-loop
 returns-2 c = sym (c .before .loop .inv .1 ∙ lookup-end _ _ _ _ (c .loop-test .left))

@@ -1,3 +1,4 @@
+use mathlib.Core.Path.{refl}
 use borrow.Author.Needs.{needs}
 use Rattle.sheet.proofs.soundness.allows.Statement.{statement}
 use Rattle.sheet.proofs.soundness.allows.Tie as tie
@@ -30,13 +31,13 @@ returns : tie.Need-returns
 returns c = rw (c .before .enum-told .given .1) (c .input-allows .ensures)
 
 returns-2 : tie.Need-returns-2
-returns-2 c = rw (c .before .enum-told2 .given .1, c .kind-in .ensures)
+returns-2 c = rw (c .before .enum-told2 .given .1, c .kind-in .ensures) refl
 
 returns-3 : tie.Need-returns-3
-returns-3 c = rw (c .before .enum-told3 .given .1, c .kind-in2 .ensures)
+returns-3 c = rw (c .before .enum-told3 .given .1, c .kind-in2 .ensures) refl
 
 returns-4 : tie.Need-returns-4
-returns-4 c = rw (c .before .enum-told4 .given .1, c .kind-in3 .ensures)
+returns-4 c = rw (c .before .enum-told4 .given .1, c .kind-in3 .ensures) refl
 
 pub allows-spec : {M : Type 1} → statement M
 allows-spec =

@@ -1,3 +1,4 @@
+use mathlib.Core.Path.{refl}
 use borrow.Author.Tests.{le-leb, lt-leb}
 use Rattle.sheet.proofs.soundness.input_allows.Statement.{statement}
 use Rattle.sheet.proofs.soundness.input_allows.Tie as tie
@@ -12,7 +13,7 @@ returns-3 : tie.Need-returns-3
 returns-3 c = simp (le-leb _ _ (c .before .before .if1 .left), le-leb _ _ (c .before .if2 .left), lt-leb _ _ (c .if3 .taken))
 
 returns-4 : tie.Need-returns-4
-returns-4 c = simp (le-leb _ _ (c .before .before .if1 .left), le-leb _ _ (c .before .if2 .left), le-leb _ _ (c .if3 .left))
+returns-4 c = simp (le-leb _ _ (c .before .before .if1 .left), le-leb _ _ (c .before .if2 .left), le-leb _ _ (c .if3 .left)) refl
 
 pub input-allows-spec : {M : Type 1} → statement M
 input-allows-spec = tie.close (tie.spec returns returns-2 returns-3 returns-4)

@@ -88,10 +88,14 @@ loop-again c =
     )
 
 returns-3 : tie.Need-returns-3 Inv-loop μ-loop
-returns-3 c = rw (ended (c .before), eq-eqb _ _ (c .if3 .taken))
+returns-3 c =
+    let l = c .before .before in
+    rw (ended (c .before), eq-eqb (l .loop .at) (length (now (l .before .before .before .before .before .args .s))) (omega arith))
 
 returns-4 : tie.Need-returns-4 Inv-loop μ-loop
-returns-4 c = rw (ended (c .before), ne-eqb _ _ (c .if3 .left))
+returns-4 c =
+    let l = c .before .before in
+    rw (ended (c .before), ne-eqb (l .loop .at) (length (now (l .before .before .before .before .before .args .s))) (omega arith))
 
 pub layout-spec : {M : Type 1} → statement M
 layout-spec =
