@@ -335,6 +335,8 @@ pub struct Oracle {
     operations: Vec<Operation>,
     any_state: StateProjection,
     sheet: Vec<u8>,
+    /// The Rust's own sheet, where the last answer was a recorded difference.
+    pub theirs: Vec<u8>,
 }
 
 impl Oracle {
@@ -352,7 +354,7 @@ impl Oracle {
             quantity: Amount::ZERO,
         });
         let any_state = StateProjection { state_type: state.state_type(), state };
-        Oracle { operations, any_state, sheet: Vec::new() }
+        Oracle { operations, any_state, sheet: Vec::new(), theirs: Vec::new() }
     }
 
     /// Asks the Rust, or answers in its place where it can't be asked.
@@ -454,12 +456,14 @@ impl Oracle {
         // The recorded difference: meter.set_maximum where the new maximum equals remaining by
         // value. The Rust copies the new maximum; document 01 keeps remaining's own scale.
         if case.call == Call::Apply && case.operation == 24 {
-            if let (ResourceState::MeteredResource(new), Some(old)) = (&mut state, before) {
-                if let Some(kept) = old.state.amount("remaining") {
-                    if new.remaining == kept && pair(new.remaining) != pair(kept) {
-                        new.remaining = kept;
-                        from = From::Recorded;
+            let kept = before.and_then(|old| old.state.amount("remaining"));
+            if let (Some(new), Some(kept)) = (state.amount("remaining"), kept) {
+                if new == kept && pair(new) != pair(kept) {
+                    sheet_of(&state, &mut self.theirs);
+                    if let ResourceState::MeteredResource(meter) = &mut state {
+                        meter.remaining = kept;
                     }
+                    from = From::Recorded;
                 }
             }
         }

@@ -84,7 +84,7 @@ fn ask(args: &[String]) {
             case.state = bytes(3);
             case.destination = bytes(4);
             case.input = bytes(5);
-            case.room = number(args.get(6), "ROOM");
+            case.room = usize::from(number::<u16>(args.get(6), "ROOM"));
         }
         Call::Read => case.input = bytes(1),
         _ => {
@@ -95,9 +95,17 @@ fn ask(args: &[String]) {
         }
     }
     let (mut rust, mut other) = (Outcome::default(), Outcome::default());
-    let from = Oracle::new().ask(&case, &mut rust);
+    let mut oracle = Oracle::new();
+    let from = oracle.ask(&case, &mut rust);
     Model.answer(&case, &mut other);
-    println!("{from:?}: {rust}");
+    if from == From::Nobody {
+        println!("the Rust can't be asked: a text isn't UTF-8");
+    } else {
+        println!("{from:?}: {rust}");
+    }
+    if from == From::Recorded {
+        println!("the Rust itself writes {}", case::hex(&oracle.theirs));
+    }
     println!("model: {other}");
 }
 

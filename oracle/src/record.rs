@@ -40,7 +40,7 @@ fn put(out: &mut Vec<u8>, case: &Case, outcome: &Outcome, flag: u8) {
     out.push(flag);
 }
 
-// 0 absent, 1 stack, 2 balance, 3 meter, 4 damaged (for the table alone).
+// 0 absent, 1 stack, 2 balance, 3 meter, 4 none of them, by the names in its table (for the coverage table alone).
 fn kind(sheet: &[u8]) -> u8 {
     match (sheet.len(), sheet.get(7), sheet.get(13)) {
         (0, _, _) => 0,
@@ -67,6 +67,9 @@ fn sort(case: &Case, outcome: &Outcome, from: From) -> (u8, u8, u8, u8, u8) {
     let operation = if matches!(outcome.number, 1 | 2 | 3 | 4 | 19) { 0 } else { case.operation };
     (case.call as u8, operation, outcome.number, outcome.detail, from as u8)
 }
+
+// Cases of the first pass.
+const RARE: u64 = 300_000;
 
 pub fn record(seed: u64, count: usize) {
     let mut oracle = Oracle::new();
@@ -101,25 +104,27 @@ pub fn record(seed: u64, count: usize) {
             From::Recorded => 2,
             From::Nobody => continue,
         };
-        // The edges stand in whole, but of the grid and the damaged ones only each sort's share.
+        // The edges stand in whole, but of the grid only each sort's share.
         let share = shares.entry(sort(&case, &outcome, from)).or_insert(0);
-        *share += 1;
-        let whole = !matches!(edge, "" | "grid" | "damaged");
+        let whole = !matches!(edge, "" | "grid");
+        // A first pass takes three of every sort, however rare; then the shares are filled.
         let limit = match outcome.number {
+            _ if tried < RARE => 3,
             1 | 2 => 60,
             3 | 4 | 19 => 25,
             20 => 6,
-            0 => 45,
+            16 => 60,
+            15 | 17 | 18 => 20,
+            0 => 35,
             _ => 12,
         };
-        // past the shares, the list is filled up with what comes
-        if !whole && *share > limit && tried < 400_000 {
+        if !whole && *share >= limit {
+            if tried > 10 * RARE {
+                crate::fail("COUNT is more than the shares of all sorts hold");
+            }
             continue;
         }
-        let size = case.state.len() + case.destination.len() + case.input.len() + case.room;
-        if size > 2500 {
-            continue;
-        }
+        *share += 1;
         Model.answer(&case, &mut model);
         assert!(model == outcome, "the model differs from the Rust: {case}\n{outcome}\n{model}");
         put(&mut file, &case, &outcome, flag);
@@ -137,15 +142,18 @@ pub fn record(seed: u64, count: usize) {
         cover.flags[usize::from(flag)] += 1;
         cover.longest = cover.longest.max(case.state.len()).max(case.input.len()).max(case.destination.len());
     }
-    table(seed, records, tried, file.len(), &cover);
+    table(seed, records, tried, file.len(), shares.len(), &cover);
     let written = std::io::stdout().write_all(&file);
     if let Err(e) = written {
         crate::fail(&format!("writing the list: {e}"));
     }
 }
 
-fn table(seed: u64, records: usize, tried: u64, bytes: usize, cover: &Coverage) {
-    eprintln!("seed {seed}: {records} records of {tried} cases tried, {bytes} bytes");
+fn table(seed: u64, records: usize, tried: u64, bytes: usize, sorts: usize, cover: &Coverage) {
+    eprintln!(
+        "seed {seed}: {records} records of {tried} cases tried, {bytes} bytes, \
+         {sorts} sorts (call, operation, number, detail, who answered)"
+    );
     eprintln!(
         "flags: {} the Rust's, {} the layer's over it, {} recorded differences; longest sheet {}",
         cover.flags[0], cover.flags[1], cover.flags[2], cover.longest
@@ -164,7 +172,7 @@ fn table(seed: u64, records: usize, tried: u64, bytes: usize, cover: &Coverage) 
             })
             .collect();
         eprintln!("{word} by operation (accepted): {}", known.join(", "));
-        let kinds: Vec<String> = ["absent", "stack", "balance", "meter", "damaged"]
+        let kinds: Vec<String> = ["absent", "stack", "balance", "meter", "none of them"]
             .iter()
             .enumerate()
             .map(|(k, w)| format!("{w} {}", cover.kinds.get(&(call, k as u8)).copied().unwrap_or(0)))
