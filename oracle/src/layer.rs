@@ -9,10 +9,10 @@ use statechronicle_domain::intent::Operation;
 use statechronicle_domain::resource_state::{ConsumableStackState, FungibleBalanceState, MeterState, ResourceState};
 use statechronicle_domain::state::StateProjection;
 use statechronicle_domain::subject::SubjectId;
-use statechronicle_profiles::consumable_stack::ConsumableStackRules;
+use statechronicle_profiles::consumable_stack::{self, ConsumableStackRules};
 use statechronicle_profiles::error::ProfileError;
-use statechronicle_profiles::fungible_balance::FungibleBalanceRules;
-use statechronicle_profiles::meter::MeterRules;
+use statechronicle_profiles::fungible_balance::{self, FungibleBalanceRules};
+use statechronicle_profiles::meter::{self, MeterRules};
 use statechronicle_profiles::registry::ProfileRules;
 use statechronicle_profiles::transition::{oracle_access, transfer_after_state};
 use std::collections::BTreeMap;
@@ -348,6 +348,11 @@ impl Oracle {
             })
             .map(|name| name.expect("a name"))
             .collect();
+        // Document 01's operations are just those that the Rust's `op::all` holds, in this order.
+        let all = [consumable_stack::op::all(), fungible_balance::op::all(), meter::op::all()].concat();
+        let all: Vec<&str> = all.iter().map(Operation::as_str).collect();
+        let ours: Vec<&str> = OPERATIONS.iter().copied().filter(|name| !name.is_empty()).collect();
+        assert_eq!(all, ours, "op::all isn't document 01's operations");
         let state = ResourceState::ConsumableStack(ConsumableStackState {
             subject: SubjectId(String::from("s")),
             unit: String::from("u"),
@@ -460,8 +465,8 @@ impl Oracle {
             if let (Some(new), Some(kept)) = (state.amount("remaining"), kept) {
                 if new == kept && pair(new) != pair(kept) {
                     sheet_of(&state, &mut self.theirs);
-                    if let ResourceState::MeteredResource(meter) = &mut state {
-                        meter.remaining = kept;
+                    if let ResourceState::MeteredResource(written) = &mut state {
+                        written.remaining = kept;
                     }
                     from = From::Recorded;
                 }
