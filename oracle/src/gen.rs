@@ -345,6 +345,102 @@ pub fn edges() -> Vec<(&'static str, Case)> {
     list.push(("damaged", torn.clone()));
     torn.state = vec![9];
     list.push(("damaged", torn));
+    // layouts that are nearly sound: (name, kind, by how much the offset is off, length), bodies of '1'
+    let raw = |rows: &[(u8, u8, i32, usize)], tail: usize| {
+        let mut bytes = vec![rows.len() as u8];
+        let mut end = 1 + 6 * rows.len();
+        for (name, kind, off, length) in rows {
+            bytes.extend_from_slice(&[*name, *kind]);
+            bytes.extend_from_slice(&((end as i32 + off) as u16).to_le_bytes());
+            bytes.extend_from_slice(&(*length as u16).to_le_bytes());
+            end += length;
+        }
+        bytes.resize(end + tail, b'1');
+        bytes
+    };
+    let nearly: [&[(u8, u8, i32, usize)]; 26] = [
+        &[(7, 1, 0, 1)],
+        &[(0, 1, 0, 1), (7, 1, 0, 1)],
+        &[(7, 1, 0, 1), (11, 1, 0, 1)],
+        &[(7, 1, 0, 1), (10, 1, 0, 1)],
+        &[(7, 1, 0, 1), (255, 1, 0, 0)],
+        &[(7, 1, 0, 1), (7, 1, 0, 1)],
+        &[(7, 1, 0, 1), (6, 1, 0, 1)],
+        &[(7, 0, 0, 0)],
+        &[(7, 0, 0, 1)],
+        &[(7, 2, 0, 0)],
+        &[(7, 2, 0, 1)],
+        &[(7, 3, 0, 17)],
+        &[(7, 4, 0, 1)],
+        &[(7, 1, 1, 1)],
+        &[(7, 1, -1, 1)],
+        &[(6, 2, 1, 0), (7, 1, 0, 1)],
+        &[(6, 2, -6, 0), (7, 1, 0, 1)],
+        &[(6, 1, 1, 0), (7, 1, 0, 1)],
+        &[(7, 1, 0, 1), (8, 2, 1, 0)],
+        &[(7, 1, 0, 1), (8, 1, -1, 0)],
+        &[(7, 1, 0, 1), (8, 2, 0, 0)],
+        &[(7, 1, 0, 1), (8, 1, 0, 256)],
+        &[(7, 1, 0, 1), (8, 1, 0, 257)],
+        &[(1, 1, 0, 1), (2, 1, 0, 1), (4, 3, 0, 17)],
+        &[(7, 1, 0, 0)],
+        &[(7, 1, 0x100, 1)],
+    ];
+    let sound = sheet(&balance("N1", "rd", (5, 0)));
+    for rows in nearly {
+        for tail in [0, 1] {
+            list.push(("layout", case(Call::Check, 2, 13, sound.clone(), raw(rows, tail), 0)));
+        }
+    }
+    let near_states: [&[(u8, u8, i32, usize)]; 22] = [
+        &[(1, 1, 0, 1), (2, 1, 0, 1), (3, 3, 0, 17)],
+        &[(1, 1, 0, 1), (2, 1, 0, 1), (4, 3, 0, 17)],
+        &[(1, 1, 0, 1), (5, 3, 0, 17), (6, 3, 0, 17)],
+        &[(1, 1, 0, 1), (2, 1, 0, 1), (4, 3, 0, 16)],
+        &[(1, 1, 0, 1), (2, 1, 0, 1), (4, 3, 0, 18)],
+        &[(1, 1, 0, 1), (2, 1, 0, 1), (4, 1, 0, 17)],
+        &[(1, 1, 0, 1), (2, 1, 0, 1), (5, 3, 0, 17)],
+        &[(1, 1, 0, 1), (2, 1, 0, 1), (7, 3, 0, 17)],
+        &[(1, 1, 0, 1), (2, 1, 0, 1)],
+        &[(1, 1, 0, 1), (4, 3, 0, 17)],
+        &[(1, 1, 0, 1), (2, 1, 0, 1), (3, 3, 0, 17), (4, 3, 0, 17)],
+        &[(1, 1, 0, 1), (2, 2, 0, 0), (4, 3, 0, 17)],
+        &[(1, 2, 0, 0), (2, 1, 0, 1), (4, 3, 0, 17)],
+        &[(2, 1, 0, 1), (1, 1, 0, 1), (4, 3, 0, 17)],
+        &[(1, 1, 0, 1), (1, 1, 0, 1), (4, 3, 0, 17)],
+        &[(1, 1, 0, 0), (2, 1, 1, 0), (4, 3, 0, 17)],
+        &[(1, 1, 1, 0), (2, 1, 0, 1), (4, 3, 0, 17)],
+        &[(1, 1, 0, 1), (2, 1, 0, 1), (4, 3, 1, 17)],
+        &[(1, 1, 0, 0), (2, 1, 0, 0), (4, 3, 0, 17)],
+        &[(1, 1, 0, 1), (5, 3, 0, 17), (6, 3, 0, 16)],
+        &[(1, 1, 0, 1), (5, 3, 0, 16), (6, 3, 0, 17)],
+        &[(1, 1, 0, 1), (5, 1, 0, 17), (6, 3, 0, 17)],
+    ];
+    for rows in near_states {
+        for tail in [0, 1] {
+            list.push(("layout", case(Call::Check, 2, 13, raw(rows, tail), inputs(&[(7, "2")]), 0)));
+        }
+        list.push(("layout", case(Call::Apply, 2, 13, raw(rows, 0), inputs(&[(7, "2")]), 64)));
+        let mut one = case(Call::Credit, 0, 15, sound.clone(), inputs(&[(7, "2"), (8, "N")]), 64);
+        one.destination = raw(rows, 0);
+        list.push(("layout", one));
+    }
+    // operations and profiles just outside
+    for (profile, operation) in [
+        (1, 0), (1, 10), (1, 11), (1, 255), (2, 9), (2, 10), (2, 21), (2, 0), (3, 20), (3, 27), (3, 0), (3, 128), (0, 1), (4, 1),
+        (255, 0), (0, 0), (4, 27),
+    ] {
+        for call in [Call::Check, Call::Apply] {
+            for state in &kinds[..2] {
+                list.push(("bounds", case(call, profile, operation, state.clone(), inputs(&all), 64)));
+            }
+        }
+    }
+    for operation in [0, 4, 6, 10, 14, 16, 22, 255] {
+        for source in &kinds[..2] {
+            list.push(("bounds", case(Call::Credit, 0, operation, source.clone(), vec![0], 64)));
+        }
+    }
     // texts of 0, 1, 255, 256, 257 bytes
     for n in [0, 1, 255, 256, 257] {
         let long = "n".repeat(n);
@@ -366,11 +462,13 @@ pub struct Gen {
     rng: Rng,
     /// Short texts nearly always (for the recorded list).
     short: bool,
+    /// The case at hand has many faults, to show the order of the tests.
+    pub rough: bool,
 }
 
 impl Gen {
     pub fn new(seed: u64, short: bool) -> Gen {
-        Gen { rng: Rng::new(seed), short }
+        Gen { rng: Rng::new(seed), short, rough: false }
     }
 
     fn long_text(&mut self, bytes: usize) -> Vec<u8> {
@@ -383,6 +481,9 @@ impl Gen {
     }
 
     fn text(&mut self) -> Vec<u8> {
+        if self.rough && self.rng.permille(300) {
+            return Vec::new();
+        }
         let long = if self.short { 4 } else { 40 };
         if self.rng.permille(long) {
             let n = self.rng.one(&[255, 256, 256, 254, 128]);
@@ -447,6 +548,9 @@ impl Gen {
 
     /// A text to be read as an amount, mostly near one that is held.
     fn amount_text(&mut self, near: Pair) -> Vec<u8> {
+        if self.rough && self.rng.permille(400) {
+            return self.rng.one(&["", "x", "1.5", "0", "0", "1e3"]).as_bytes().to_vec();
+        }
         let whole = if near.1 > 38 { 0 } else { near.0 / power(u32::from(near.1)) };
         let value = match self.rng.below(100) {
             0..=29 => whole,
@@ -512,9 +616,11 @@ impl Gen {
         let mut fields = Fields::default();
         let near = if near == (0, 0) && wanted.len() == 3 { self.amount() } else { near };
         for &name in wanted {
-            match self.rng.below(100) {
-                0..=1 => {}
-                2 => fields.put(name, Body::Other),
+            let (missing, other) = if self.rough { (150, 300) } else { (20, 30) };
+            let fault = self.rng.below(1000);
+            match fault {
+                _ if fault < missing => {}
+                _ if fault < other => fields.put(name, Body::Other),
                 _ if is_amount(name) => {
                     let t = self.amount_text(near);
                     fields.put(name, Body::Text(t));
@@ -642,6 +748,7 @@ impl Gen {
         case.state.clear();
         case.destination.clear();
         case.input.clear();
+        self.rough = self.rng.permille(120);
         case.call = match self.rng.below(100) {
             0..=37 => Call::Check,
             38..=71 => Call::Apply,
@@ -702,6 +809,7 @@ impl Gen {
         let create = matches!(operation, 1 | 11 | 21);
         // the state: mostly of the profile's kind, and for a create mostly none
         let kind = match self.rng.below(100) {
+            0..=29 if self.rough => self.rng.below(4),
             0..=6 => 1 + self.rng.below(3),
             7..=8 => 0,
             _ if create && self.rng.below(10) > 0 => 0,
@@ -743,11 +851,13 @@ impl Gen {
         case.operation = if self.rng.below(2) == 0 { 5 } else { 15 };
         let own = if case.operation == 5 { 1 } else { 2 };
         let source = match self.rng.below(100) {
+            0..=29 if self.rough => self.rng.below(4),
             0..=9 => 1 + self.rng.below(3),
             10..=12 => 0,
             _ => own,
         };
         let destination = match self.rng.below(100) {
+            0..=29 if self.rough => self.rng.below(4),
             0..=9 => 1 + self.rng.below(3),
             10..=34 => 0,
             _ => own,

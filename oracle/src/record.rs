@@ -63,9 +63,9 @@ struct Coverage {
 }
 
 // A share of records for each sort, so that none crowds out the others.
-fn sort(case: &Case, outcome: &Outcome, from: From) -> (u8, u8, u8, u8, u8) {
+fn sort(case: &Case, outcome: &Outcome, from: From, rough: bool) -> (u8, u8, u8, u8, u8, bool) {
     let operation = if matches!(outcome.number, 1 | 2 | 3 | 4 | 19) { 0 } else { case.operation };
-    (case.call as u8, operation, outcome.number, outcome.detail, from as u8)
+    (case.call as u8, operation, outcome.number, outcome.detail, from as u8, rough)
 }
 
 // Cases of the first pass.
@@ -78,7 +78,7 @@ pub fn record(seed: u64, count: usize) {
     let (mut outcome, mut model) = (Outcome::default(), Outcome::default());
     let mut file = Vec::new();
     let mut cover = Coverage::default();
-    let mut shares: BTreeMap<(u8, u8, u8, u8, u8), u32> = BTreeMap::new();
+    let mut shares: BTreeMap<(u8, u8, u8, u8, u8, bool), u32> = BTreeMap::new();
     let mut records = 0;
     let mut case = Case::new();
     let mut tried = 0u64;
@@ -105,18 +105,19 @@ pub fn record(seed: u64, count: usize) {
             From::Nobody => continue,
         };
         // The edges stand in whole, but of the grid only each sort's share.
-        let share = shares.entry(sort(&case, &outcome, from)).or_insert(0);
+        let share = shares.entry(sort(&case, &outcome, from, gen.rough)).or_insert(0);
         let whole = !matches!(edge, "" | "grid");
         // A first pass takes three of every sort, however rare; then the shares are filled.
         let limit = match outcome.number {
             _ if tried < RARE => 3,
-            1 | 2 => 60,
-            3 | 4 | 19 => 25,
-            20 => 6,
+            1 | 2 => 40,
+            3 | 4 | 19 => 20,
+            20 => 4,
             16 => 60,
-            15 | 17 | 18 => 20,
-            0 => 35,
-            _ => 12,
+            15 | 17 | 18 => 18,
+            0 if gen.rough => 6,
+            0 => 30,
+            _ => 8,
         };
         if !whole && *share >= limit {
             if tried > 10 * RARE {
@@ -152,7 +153,7 @@ pub fn record(seed: u64, count: usize) {
 fn table(seed: u64, records: usize, tried: u64, bytes: usize, sorts: usize, cover: &Coverage) {
     eprintln!(
         "seed {seed}: {records} records of {tried} cases tried, {bytes} bytes, \
-         {sorts} sorts (call, operation, number, detail, who answered)"
+         {sorts} sorts (call, operation, number, detail, who answered, one fault or many)"
     );
     eprintln!(
         "flags: {} the Rust's, {} the layer's over it, {} recorded differences; longest sheet {}",
