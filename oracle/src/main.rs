@@ -187,7 +187,8 @@ fn print_counts(word: &str, seed: u64, count: u64, n: &Counts) {
     }
     println!("equal     {} with the Rust or the layer over it", n.equal);
     println!("recorded  {} where document 01 differs from the Rust (set_maximum on a tie), equal to the document", n.recorded);
-    println!("not UTF-8 {} where the Rust can't be asked, equal to the model", n.nobody);
+    let held = if word == "the model" { "so not compared" } else { "equal to the model" };
+    println!("not UTF-8 {} where the Rust can't be asked, {held}", n.nobody);
     if n.absent > 0 {
         println!("not asked {} calls that the other side hasn't", n.absent);
     }

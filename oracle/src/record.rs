@@ -1,4 +1,7 @@
 //! The recorded list: a fixed choice of the Rust's answers, in a form that is easy to replay.
+//! oracle/recorded.bin is what `tools/oracle record 2026 6000` writes; the same command checks it:
+//! `tools/oracle record 2026 6000 | cmp - oracle/recorded.bin`.
+//!
 //! A sequence of records to the end of the file, multi-byte numbers little-endian:
 //!
 //!   call (1 check, 2 apply, 3 credit), profile, operation                     1 byte each
