@@ -12,7 +12,7 @@ use lib.Seq.{drop-cons}
 use borrow.Author.Tests.{ne-eqb}
 use Rattle.sheet.specs.Amounts.{amountAt}
 use Rattle.sheet.specs.Fields.{Field, text, whole, other, fieldOfKind}
-use Rattle.profiles.specs.Readers.{marked, isMark, textIn, textOf, bytesOf, parsed, amountBy, amountIn, amountOf}
+use Rattle.profiles.specs.Readers.{marked, isMark, textIn, textOf, bytesOf, amountBy, amountIn, amountOf}
 use Rattle.profiles.specs.declared.error.ProfileError.the-variants.{NotText, NotWhole, NoField}
 use Rattle.profiles.specs.declared.error.Outcome.the-variants.{Refused}
 use Rattle.profiles.specs.declared.error.Reading.the-variants.{Given, Failed}

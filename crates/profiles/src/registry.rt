@@ -9,7 +9,7 @@ ghost use Rattle.sheet.specs.Fields.{field};
 ghost use Rattle.sheet.specs.Sheet.{stateOf, verdictOf};
 ghost use Rattle.sheet.specs.declared.Shape.the-variants.{Input};
 ghost use Rattle.profiles.specs.Readers.{textIn, textOf, bytesOf, marked, givenOr, parsed, amountIn, amountOf};
-ghost use Rattle.profiles.specs.Tests.{stateThere, stateAbsent, aboveZero, heldBy, upTo, asking, firstOf, takes, creates, born, in-text, in-amount, _then_};
+ghost use Rattle.profiles.specs.Tests.{stateThere, stateAbsent, aboveZero, unlessLess, heldBy, upTo, asking, firstOf, takes, creates, born, in-text, in-amount, _then_};
 ghost use Rattle.profiles.specs.Check.{stateSound, inputSound, profileOf, operationOf, called};
 use super::error::Outcome;
 use super::error::ProfileError;
@@ -231,18 +231,26 @@ pub fn require_positive(amount: Amount) -> Outcome
     Outcome::Accepted
 }
 
+// A refusal where one amount is less than another, and none on a tie.
+fn unless_less(o: Ordering, e: ProfileError) -> Outcome
+    ensures { λ r. ⌜ r ≡ unlessLess o e ⌝ }
+{
+    match o {
+        Ordering::Less => Outcome::Refused(e),
+        Ordering::Equal => Outcome::Accepted,
+        Ordering::Greater => Outcome::Accepted,
+    }
+}
+
 // 15.
 pub fn require_available(requested: Amount, available: Amount) -> Outcome
     ensures { λ r. ⌜ r ≡ heldBy available requested ⌝ }
 {
-    match available.cmp(requested) {
-        Ordering::Less => Outcome::Refused(ProfileError::InsufficientQuantity {
-            available,
-            requested,
-        }),
-        Ordering::Equal => Outcome::Accepted,
-        Ordering::Greater => Outcome::Accepted,
-    }
+    let short = ProfileError::InsufficientQuantity {
+        available,
+        requested,
+    };
+    unless_less(available.cmp(requested), short)
 }
 
 // 14, then 15.
@@ -259,11 +267,7 @@ pub fn require_positive_available(requested: Amount, available: Amount) -> Outco
 pub fn require_up_to(amount: Amount, maximum: Amount) -> Outcome
     ensures { λ r. ⌜ r ≡ upTo amount maximum ⌝ }
 {
-    match maximum.cmp(amount) {
-        Ordering::Less => Outcome::Refused(ProfileError::OverMaximum),
-        Ordering::Equal => Outcome::Accepted,
-        Ordering::Greater => Outcome::Accepted,
-    }
+    unless_less(maximum.cmp(amount), ProfileError::OverMaximum)
 }
 
 // In asked, 14, 15, against what is held: a state's amount here, a place's balance in the book.

@@ -15,10 +15,10 @@ refusal-requires : tie.Need-refusal-requires
 refusal-requires c κs = search needs
 
 returns : tie.Need-returns
-returns c = rw (c .before .enum-told .given .1, ← c .plain .ensures)
+returns c = rw (c .before .enum-told .given .1) (c .plain .ensures)
 
 returns-2 : tie.Need-returns-2
-returns-2 c = rw (c .before .before .o .given .1, ← c .refusal .ensures)
+returns-2 c = rw (c .before .before .o .given .1) (c .refusal .ensures)
 
 pub answer-of-spec : {M : Type 1} → statement M
 answer-of-spec =

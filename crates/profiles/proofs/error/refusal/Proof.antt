@@ -120,64 +120,64 @@ plain-requires-19 : tie.Need-plain-requires-19
 plain-requires-19 c κs = search needs
 
 returns : tie.Need-returns
-returns c = rw (c .before .before .e .given .1, ← c .plain .ensures)
+returns c = rw (c .before .before .e .given .1) (c .plain .ensures)
 
 returns-2 : tie.Need-returns-2
-returns-2 c = rw (c .before .enum-told .given .1, ← c .plain2 .ensures)
+returns-2 c = rw (c .before .enum-told .given .1) (c .plain2 .ensures)
 
 returns-3 : tie.Need-returns-3
-returns-3 c = rw (c .before .enum-told2 .given .1, ← c .plain3 .ensures)
+returns-3 c = rw (c .before .enum-told2 .given .1) (c .plain3 .ensures)
 
 returns-4 : tie.Need-returns-4
-returns-4 c = rw (c .before .enum-told3 .given .1, ← c .plain4 .ensures)
+returns-4 c = rw (c .before .enum-told3 .given .1) (c .plain4 .ensures)
 
 returns-5 : tie.Need-returns-5
-returns-5 c = rw (c .before .enum-told4 .given .1, ← c .plain5 .ensures)
+returns-5 c = rw (c .before .enum-told4 .given .1) (c .plain5 .ensures)
 
 returns-6 : tie.Need-returns-6
-returns-6 c = rw (c .before .enum-told5 .given .1, ← c .plain6 .ensures)
+returns-6 c = rw (c .before .enum-told5 .given .1) (c .plain6 .ensures)
 
 returns-7 : tie.Need-returns-7
-returns-7 c = rw (c .before .before .e2 .given .1, ← c .plain7 .ensures)
+returns-7 c = rw (c .before .before .e2 .given .1) (c .plain7 .ensures)
 
 returns-8 : tie.Need-returns-8
-returns-8 c = rw (c .before .before .e3 .given .1, ← c .plain8 .ensures)
+returns-8 c = rw (c .before .before .e3 .given .1) (c .plain8 .ensures)
 
 returns-9 : tie.Need-returns-9
-returns-9 c = rw (c .before .before .e4 .given .1, ← c .plain9 .ensures)
+returns-9 c = rw (c .before .before .e4 .given .1) (c .plain9 .ensures)
 
 returns-10 : tie.Need-returns-10
-returns-10 c = rw (c .before .before .e5 .given .1, ← c .plain10 .ensures)
+returns-10 c = rw (c .before .before .e5 .given .1) (c .plain10 .ensures)
 
 returns-11 : tie.Need-returns-11
-returns-11 c = rw (c .before .before .e6 .given .1, ← c .plain11 .ensures)
+returns-11 c = rw (c .before .before .e6 .given .1) (c .plain11 .ensures)
 
 returns-12 : tie.Need-returns-12
-returns-12 c = rw (c .before .before .e7 .given .1, ← c .plain12 .ensures)
+returns-12 c = rw (c .before .before .e7 .given .1) (c .plain12 .ensures)
 
 returns-13 : tie.Need-returns-13
-returns-13 c = rw (c .before .before .e8 .given .1, ← c .plain13 .ensures)
+returns-13 c = rw (c .before .before .e8 .given .1) (c .plain13 .ensures)
 
 returns-14 : tie.Need-returns-14
-returns-14 c = rw (c .before .enum-told6 .given .1, ← c .plain14 .ensures)
+returns-14 c = rw (c .before .enum-told6 .given .1) (c .plain14 .ensures)
 
 returns-15 : tie.Need-returns-15
 returns-15 c = rw (c .before .e9 .given .1)
 
 returns-16 : tie.Need-returns-16
-returns-16 c = rw (c .before .enum-told7 .given .1, ← c .plain15 .ensures)
+returns-16 c = rw (c .before .enum-told7 .given .1) (c .plain15 .ensures)
 
 returns-17 : tie.Need-returns-17
-returns-17 c = rw (c .before .enum-told8 .given .1, ← c .plain16 .ensures)
+returns-17 c = rw (c .before .enum-told8 .given .1) (c .plain16 .ensures)
 
 returns-18 : tie.Need-returns-18
-returns-18 c = rw (c .before .enum-told9 .given .1, ← c .plain17 .ensures)
+returns-18 c = rw (c .before .enum-told9 .given .1) (c .plain17 .ensures)
 
 returns-19 : tie.Need-returns-19
-returns-19 c = rw (c .before .enum-told10 .given .1, ← c .plain18 .ensures)
+returns-19 c = rw (c .before .enum-told10 .given .1) (c .plain18 .ensures)
 
 returns-20 : tie.Need-returns-20
-returns-20 c = rw (c .before .enum-told11 .given .1, ← c .plain19 .ensures)
+returns-20 c = rw (c .before .enum-told11 .given .1) (c .plain19 .ensures)
 
 pub refusal-spec : {M : Type 1} → statement M
 refusal-spec =

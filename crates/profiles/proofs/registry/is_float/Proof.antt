@@ -1,11 +1,8 @@
-use mathlib.Core.Path.{_≡_, refl, sym, _∙_}
-use mathlib.Core.Bool.{true, false}
-use Prim.Native.Nat.{ℕ, _+_, _-_, _<_, _≤_}
+use Prim.Native.Nat.{_-_}
 use native.Mathlib.Omega.{arith}
-use lib.ListN.{length, drop, getD, drop-of-length-le}
-use borrow.Author.Tests.{eq-eqb, ne-eqb}
+use lib.ListN.{length}
+use borrow.Author.Tests.{ne-eqb}
 use borrow.Author.Needs.{needs}
-use Rattle.profiles.specs.Readers.{marked, isMark}
 use Rattle.profiles.proofs.Readers.{Unmarked, unmarked-start, is-marked, not-marked, none-marked}
 use Rattle.profiles.proofs.registry.is_float.Statement.{statement}
 use Rattle.profiles.proofs.registry.is_float.Tie as tie
@@ -23,13 +20,13 @@ shared-slice-read-b : tie.Need-shared-slice-read-b Inv-loop μ-loop
 shared-slice-read-b c = search needs
 
 returns : tie.Need-returns Inv-loop μ-loop
-returns c = is-marked (c .before .before .before .loop .inv) (omega arith) (rw (eq-eqb _ _ (c .if1 .taken)))
+returns c = is-marked (c .before .before .before .loop .inv) (omega arith) (rw (c .if1 .taken))
 
 returns-2 : tie.Need-returns-2 Inv-loop μ-loop
-returns-2 c = is-marked (c .before .before .before .before .loop .inv) (omega arith) (rw (ne-eqb _ _ (c .before .if1 .left), eq-eqb _ _ (c .if2 .taken)))
+returns-2 c = is-marked (c .before .before .before .before .loop .inv) (omega arith) (rw (c .if2 .taken))
 
 returns-3 : tie.Need-returns-3 Inv-loop μ-loop
-returns-3 c = is-marked (c .before .before .before .before .before .loop .inv) (omega arith) (rw (ne-eqb _ _ (c .before .before .if1 .left), ne-eqb _ _ (c .before .if2 .left), eq-eqb _ _ (c .if3 .taken)))
+returns-3 c = is-marked (c .before .before .before .before .before .loop .inv) (omega arith) (rw (c .if3 .taken))
 
 add-i : tie.Need-add-i Inv-loop μ-loop
 add-i c = search needs

@@ -6,28 +6,12 @@ use Rattle.profiles.proofs.registry.require_up_to.Tie as tie
 cmp-requires : tie.Need-cmp-requires
 cmp-requires c κs = search needs
 
-enum-told : tie.Need-enum-told
-enum-told c = search needs
-
-enum-told-2 : tie.Need-enum-told-2
-enum-told-2 c = search needs
-
-enum-told-3 : tie.Need-enum-told-3
-enum-told-3 c = search needs
+unless-less-requires : tie.Need-unless-less-requires
+unless-less-requires c κs = search needs
 
 returns : tie.Need-returns
 unfolding upTo
-returns c = rw (← c .before .before .cmp .ensures, c .enum-told .given .1)
-
-returns-2 : tie.Need-returns-2
-unfolding upTo
-returns-2 c = rw (← c .before .before .cmp .ensures, c .enum-told2 .given .1)
-
-returns-3 : tie.Need-returns-3
-unfolding upTo
-returns-3 c = rw (← c .before .before .cmp .ensures, c .enum-told3 .given .1)
+returns c = rw (← c .before .cmp .ensures) (c .unless-less .ensures)
 
 pub require-up-to-spec : {M : Type 1} → statement M
-require-up-to-spec =
-    tie.close
-    (tie.spec cmp-requires enum-told enum-told-2 enum-told-3 returns returns-2 returns-3)
+require-up-to-spec = tie.close (tie.spec cmp-requires unless-less-requires returns)

@@ -1,7 +1,6 @@
 use Rattle.profiles.proofs.Readers.{amount-of-not, amount-of-is}
 use Rattle.sheet.specs.Fields.{field}
 use Rattle.profiles.specs.Readers.{amountOf}
-use borrow.Author.Tests.{eq-eqb, ne-eqb}
 use borrow.Author.Needs.{needs}
 use Rattle.profiles.proofs.registry.state_amount.Statement.{statement}
 use Rattle.profiles.proofs.registry.state_amount.Tie as tie

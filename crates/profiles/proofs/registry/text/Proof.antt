@@ -1,7 +1,7 @@
 use Rattle.profiles.proofs.Readers.{no-bytes}
 use Rattle.profiles.specs.Readers.{bytesOf}
 use Rattle.sheet.specs.Fields.{field}
-use borrow.Author.Tests.{eq-eqb, ne-eqb}
+use borrow.Author.Tests.{eq-eqb}
 use borrow.Author.Needs.{needs}
 use Rattle.profiles.proofs.registry.text.Statement.{statement}
 use Rattle.profiles.proofs.registry.text.Tie as tie
