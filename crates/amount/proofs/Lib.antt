@@ -11,4 +11,3 @@ pub mod Assembling
 pub mod Texts
 pub mod Cutting
 pub mod Theorems
-pub mod Edges

@@ -1,0 +1,4 @@
+-- The laws of the definitions, which the proofs cite, and the theorems that docs/PROOFS.md names.
+pub mod Readers
+pub mod Tests
+pub mod Edges

@@ -1,0 +1,96 @@
+// The stack's checks, the port of consumable_stack.rs.
+ghost use mathlib.Core.Path.{_≡_};
+ghost use mathlib.Core.Bool.{not};
+ghost use mathlib.Core.List.{[], _∷_};
+ghost use lib.Dec.{eqb};
+ghost use lib.ListN.{length};
+ghost use Rattle.sheet.specs.Fields.{field, sightOf, quantity, to-subject};
+ghost use Rattle.profiles.specs.Readers.{amountIn};
+ghost use Rattle.profiles.specs.Tests.{firstOf, stateThere, born, in-text, in-amount, positive, takes, creates};
+ghost use Rattle.profiles.specs.Stack.{stackRules};
+use super::error::Outcome;
+use super::error::ProfileError;
+use super::error::Reading;
+use super::registry;
+use sheet::QUANTITY;
+use sheet::TO_SUBJECT;
+
+fn check_create(state: &[u8], input: &[u8]) -> Outcome
+    ensures { λ r. ⌜ r ≡ firstOf (now (state .entry)) (now (input .entry)) (creates quantity) ⌝ }
+{
+    registry::check_creating(state, input, QUANTITY)
+}
+
+fn check_credit(state: &[u8], input: &[u8]) -> Outcome
+    ensures { λ r. ⌜ r ≡ firstOf (now (state .entry)) (now (input .entry)) (born ∷ in-amount quantity ∷ []) ⌝ }
+{
+    registry::check_setting(state, input, QUANTITY)
+}
+
+fn check_debit(state: &[u8], input: &[u8]) -> Outcome
+    ensures { λ r. ⌜ r ≡ firstOf (now (state .entry)) (now (input .entry)) (born ∷ takes quantity quantity) ⌝ }
+{
+    registry::check_taking(state, input, QUANTITY, QUANTITY)
+}
+
+fn check_consume(state: &[u8], input: &[u8]) -> Outcome
+    ensures { λ r. ⌜ r ≡ firstOf (now (state .entry)) (now (input .entry)) (born ∷ takes quantity quantity) ⌝ }
+{
+    check_debit(state, input)
+}
+
+fn check_transfer(state: &[u8], input: &[u8]) -> Outcome
+    ensures { λ r. ⌜ r ≡ firstOf (now (state .entry)) (now (input .entry)) (born ∷ in-text to-subject ∷ takes quantity quantity) ⌝ }
+{
+    registry::check_taking_with(state, input, TO_SUBJECT, QUANTITY, QUANTITY)
+}
+
+fn check_reserve(state: &[u8], input: &[u8]) -> Outcome
+    ensures { λ r. ⌜ r ≡ firstOf (now (state .entry)) (now (input .entry)) (born ∷ takes quantity quantity) ⌝ }
+{
+    check_debit(state, input)
+}
+
+fn check_release(state: &[u8], input: &[u8]) -> Outcome
+    ensures { λ r. ⌜ r ≡ firstOf (now (state .entry)) (now (input .entry)) (born ∷ in-amount quantity ∷ positive quantity ∷ []) ⌝ }
+{
+    if let Outcome::Refused(e) = registry::require_current(state) {
+        return Outcome::Refused(e);
+    }
+    let requested = match registry::input_amount(input, QUANTITY) {
+        Reading::Given(a) => a,
+        Reading::Failed(e) => return Outcome::Refused(e),
+    };
+    registry::require_positive(requested)
+}
+
+fn check_expire(state: &[u8]) -> Outcome
+    ensures { λ r. ⌜ r ≡ stateThere (not (eqb (length (now (state .entry))) 0)) ⌝ }
+{
+    registry::require_current(state)
+}
+
+fn check_adjust(state: &[u8], input: &[u8]) -> Outcome
+    ensures { λ r. ⌜ r ≡ firstOf (now (state .entry)) (now (input .entry)) (born ∷ in-amount quantity ∷ []) ⌝ }
+{
+    registry::check_setting(state, input, QUANTITY)
+}
+
+// The operation's list; 4 where it is not of this profile.
+pub fn check(operation: u8, state: &[u8], input: &[u8]) -> Outcome
+    ensures { λ r. ⌜ r ≡ stackRules amountIn (sightOf (now (state .entry))) (field (now (input .entry))) operation ⌝ }
+{
+    let op = operation;
+    match op {
+        1 => check_create(state, input),
+        2 => check_credit(state, input),
+        3 => check_debit(state, input),
+        4 => check_consume(state, input),
+        5 => check_transfer(state, input),
+        6 => check_reserve(state, input),
+        7 => check_release(state, input),
+        8 => check_expire(state),
+        9 => check_adjust(state, input),
+        _ => Outcome::Refused(ProfileError::UnknownOperation),
+    }
+}

@@ -1,0 +1,125 @@
+// The balance's checks, the port of fungible_balance.rs.
+ghost use mathlib.Core.Path.{_≡_};
+ghost use mathlib.Core.List.{_∷_};
+ghost use Rattle.sheet.specs.Fields.{field, sightOf, balance, to-subject, to-unit, authorized-by};
+ghost use Rattle.profiles.specs.Readers.{amountIn, amountOf};
+ghost use Rattle.profiles.specs.Tests.{firstOf, born, in-text, creates};
+ghost use Rattle.profiles.specs.Balance.{credited, debited, balanceRules};
+use super::error::Outcome;
+use super::error::ProfileError;
+use super::error::Reading;
+use super::registry;
+use sheet::AMOUNT;
+use sheet::AUTHORIZED_BY;
+use sheet::BALANCE;
+use sheet::TO_SUBJECT;
+use sheet::TO_UNIT;
+
+fn check_create(state: &[u8], input: &[u8]) -> Outcome
+    ensures { λ r. ⌜ r ≡ firstOf (now (state .entry)) (now (input .entry)) (creates balance) ⌝ }
+{
+    registry::check_creating(state, input, BALANCE)
+}
+
+fn check_mint(state: &[u8], input: &[u8]) -> Outcome
+    ensures { λ r. ⌜ r ≡ firstOf (now (state .entry)) (now (input .entry)) (born ∷ in-text authorized-by ∷ credited) ⌝ }
+{
+    if let Outcome::Refused(e) = registry::require_current(state) {
+        return Outcome::Refused(e);
+    }
+    if let Outcome::Refused(e) = registry::input_str(input, AUTHORIZED_BY) {
+        return Outcome::Refused(e);
+    }
+    require_credited(state, input)
+}
+
+fn check_credit(state: &[u8], input: &[u8]) -> Outcome
+    ensures { λ r. ⌜ r ≡ firstOf (now (state .entry)) (now (input .entry)) (born ∷ credited) ⌝ }
+{
+    if let Outcome::Refused(e) = registry::require_current(state) {
+        return Outcome::Refused(e);
+    }
+    require_credited(state, input)
+}
+
+fn check_debit(state: &[u8], input: &[u8]) -> Outcome
+    ensures { λ r. ⌜ r ≡ firstOf (now (state .entry)) (now (input .entry)) (born ∷ debited) ⌝ }
+{
+    registry::check_taking(state, input, BALANCE, AMOUNT)
+}
+
+fn check_transfer(state: &[u8], input: &[u8]) -> Outcome
+    ensures { λ r. ⌜ r ≡ firstOf (now (state .entry)) (now (input .entry)) (born ∷ in-text to-subject ∷ debited) ⌝ }
+{
+    registry::check_taking_with(state, input, TO_SUBJECT, BALANCE, AMOUNT)
+}
+
+fn check_reserve(state: &[u8], input: &[u8]) -> Outcome
+    ensures { λ r. ⌜ r ≡ firstOf (now (state .entry)) (now (input .entry)) (born ∷ debited) ⌝ }
+{
+    check_debit(state, input)
+}
+
+fn check_release(state: &[u8], input: &[u8]) -> Outcome
+    ensures { λ r. ⌜ r ≡ firstOf (now (state .entry)) (now (input .entry)) (born ∷ credited) ⌝ }
+{
+    check_credit(state, input)
+}
+
+fn check_spend(state: &[u8], input: &[u8]) -> Outcome
+    ensures { λ r. ⌜ r ≡ firstOf (now (state .entry)) (now (input .entry)) (born ∷ debited) ⌝ }
+{
+    check_debit(state, input)
+}
+
+fn check_burn(state: &[u8], input: &[u8]) -> Outcome
+    ensures { λ r. ⌜ r ≡ firstOf (now (state .entry)) (now (input .entry)) (born ∷ in-text authorized-by ∷ debited) ⌝ }
+{
+    registry::check_taking_with(state, input, AUTHORIZED_BY, BALANCE, AMOUNT)
+}
+
+fn check_convert(state: &[u8], input: &[u8]) -> Outcome
+    ensures { λ r. ⌜ r ≡ firstOf (now (state .entry)) (now (input .entry)) (born ∷ in-text to-unit ∷ debited) ⌝ }
+{
+    registry::check_taking_with(state, input, TO_UNIT, BALANCE, AMOUNT)
+}
+
+fn current_balance(state: &[u8]) -> Reading
+    ensures { λ r. ⌜ r ≡ amountOf balance (field (now (state .entry)) balance) ⌝ }
+{
+    registry::state_amount(state, BALANCE)
+}
+
+// In amount, st balance, 14: what mint, credit and release have in common.
+fn require_credited(state: &[u8], input: &[u8]) -> Outcome
+    ensures { λ r. ⌜ r ≡ firstOf (now (state .entry)) (now (input .entry)) (credited) ⌝ }
+{
+    let amount = match registry::input_amount(input, AMOUNT) {
+        Reading::Given(a) => a,
+        Reading::Failed(e) => return Outcome::Refused(e),
+    };
+    if let Reading::Failed(e) = current_balance(state) {
+        return Outcome::Refused(e);
+    }
+    registry::require_positive(amount)
+}
+
+// The operation's list; 4 where it is not of this profile.
+pub fn check(operation: u8, state: &[u8], input: &[u8]) -> Outcome
+    ensures { λ r. ⌜ r ≡ balanceRules amountIn (sightOf (now (state .entry))) (field (now (input .entry))) operation ⌝ }
+{
+    let op = operation;
+    match op {
+        11 => check_create(state, input),
+        12 => check_mint(state, input),
+        13 => check_credit(state, input),
+        14 => check_debit(state, input),
+        15 => check_transfer(state, input),
+        16 => check_reserve(state, input),
+        17 => check_release(state, input),
+        18 => check_spend(state, input),
+        19 => check_burn(state, input),
+        20 => check_convert(state, input),
+        _ => Outcome::Refused(ProfileError::UnknownOperation),
+    }
+}

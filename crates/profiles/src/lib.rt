@@ -1,0 +1,25 @@
+// The profiles: readers of sheets, and the checks of stacks, balances and meters.
+ghost use mathlib.Core.Path.{_≡_};
+ghost use Rattle.profiles.specs.Check.{checkOf};
+
+pub mod consumable_stack;
+pub mod error;
+pub mod fungible_balance;
+pub mod meter;
+pub mod registry;
+
+use error::Outcome;
+
+// Whether an operation of a profile may be done on a state with an input: 1, 2, 3, 4, then the operation's list.
+pub fn check(profile: u8, operation: u8, state: &[u8], input: &[u8]) -> Outcome
+    ensures { λ r. ⌜ r ≡ checkOf profile operation (now (state .entry)) (now (input .entry)) ⌝ }
+{
+    if let Outcome::Refused(e) = registry::require_call(profile, operation, state, input) {
+        return Outcome::Refused(e);
+    }
+    match profile {
+        1 => consumable_stack::check(operation, state, input),
+        2 => fungible_balance::check(operation, state, input),
+        _ => meter::check(operation, state, input),
+    }
+}

@@ -1,0 +1,48 @@
+-- Document 01, section "Operations", the answer of apply and credit: 20 last; a refusal writes nothing, an accepted call the first bytes only.
+use mathlib.Core.List.{List}
+use Prim.Native.Nat.{ℕ, _<_, _≤_}
+use lib.ListN.{length}
+use Rattle.sheet.specs.Encode.{putInto, putAnswer}
+use Rattle.sheet.specs.Fields.{field}
+use Rattle.sheet.specs.declared.write.Put.{Put}
+use Rattle.sheet.specs.declared.write.Put.the-variants as Put
+use Rattle.profiles.specs.Readers.{bytesOf}
+use Rattle.profiles.specs.Refusals.{zeroAmount, refusalOf}
+use Rattle.profiles.specs.declared.error.ProfileError.the-variants.{Narrow}
+use Rattle.profiles.specs.declared.error.Answer.{Answer}
+use Rattle.transition.specs.Next.{sheetOf}
+use Rattle.transition.specs.declared.resource_state.ResourceState.{ResourceState}
+use Rattle.transition.specs.declared.resource_state.Next.{Next}
+use Rattle.transition.specs.declared.resource_state.Next.the-variants as Next
+
+-- accepted: the length written
+abbrev pub acceptedOf : ℕ → Answer
+acceptedOf n = record { number = 0; detail = 0; available = zeroAmount; requested = zeroAmount; length = n }
+
+abbrev pub putOf : Put → Answer
+putOf (Put.Done n) = acceptedOf n
+putOf Put.Narrow = refusalOf Narrow
+
+-- the answer, and the buffer at exit, of a next state whose texts stand in two sheets
+abbrev pub stateAnswer : ResourceState → List ℕ → List ℕ → List ℕ → Answer
+stateAnswer n s i old = putOf (putAnswer (sheetOf (field s) (field i) n) old)
+
+abbrev pub stateBuffer : ResourceState → List ℕ → List ℕ → List ℕ → List ℕ
+stateBuffer n s i old = putInto (sheetOf (field s) (field i) n) old
+
+unfoldable pub answerTo : Next → List ℕ → List ℕ → List ℕ → Answer
+answerTo (Next.State n) s i old = stateAnswer n s i old
+answerTo (Next.Refused e) s i old = refusalOf e
+
+unfoldable pub bufferAfter : Next → List ℕ → List ℕ → List ℕ → List ℕ
+bufferAfter (Next.State n) s i old = stateBuffer n s i old
+bufferAfter (Next.Refused e) s i old = old
+
+-- For the private helpers: texts of at most 256 bytes, so that the length fits 16 bits.
+
+abbrev pub ShortTexts : List ℕ → Type 0
+ShortTexts s = (name : ℕ) → length (bytesOf (field s name)) ≤ 256
+
+abbrev pub PutFits : Put → Type 0
+PutFits (Put.Done n) = n < 65536
+PutFits Put.Narrow = 0 < 1

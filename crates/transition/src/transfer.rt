@@ -1,0 +1,78 @@
+// The far end of a transfer. No profile is given; the operation says the kind.
+ghost use mathlib.Core.Path.{_≡_};
+ghost use Rattle.sheet.specs.Fields.{field, sightOf};
+ghost use Rattle.profiles.specs.Readers.{amountIn};
+ghost use Rattle.transition.specs.Credit.{existing, creditedAmount, creditBy};
+use super::holding::balance;
+use super::holding::stack;
+use super::resource_state::Next;
+use super::resource_state::Part;
+use amount::Amount;
+use profiles::error::Outcome;
+use profiles::error::ProfileError;
+use profiles::error::Reading;
+use profiles::registry::given_or;
+use profiles::registry::input_amount;
+use profiles::registry::input_str;
+use profiles::registry::require_current;
+use profiles::registry::state_amount;
+use profiles::registry::state_str;
+use sheet::AMOUNT;
+use sheet::BALANCE;
+use sheet::QUANTITY;
+use sheet::TO_SUBJECT;
+use sheet::UNIT;
+
+// What the destination has; nothing where it is absent.
+fn existing_amount(destination: &[u8], held: u8) -> Reading
+    ensures { λ r. ⌜ r ≡ existing held (sightOf (now (destination .entry))) ⌝ }
+{
+    if destination.len() == 0 {
+        return Reading::Given(Amount::ZERO);
+    }
+    state_amount(destination, held)
+}
+
+// An absent source is 6; in to_subject, source unit, in asked, the destination's, the sum.
+fn credited_amount(source: &[u8], destination: &[u8], input: &[u8], held: u8, asked: u8) -> Reading
+    ensures { λ r. ⌜ r ≡ creditedAmount amountIn (sightOf (now (source .entry))) (sightOf (now (destination .entry))) (field (now (input .entry))) held asked ⌝ }
+{
+    if let Outcome::Refused(e) = require_current(source) {
+        return Reading::Failed(e);
+    }
+    if let Outcome::Refused(e) = input_str(input, TO_SUBJECT) {
+        return Reading::Failed(e);
+    }
+    if let Outcome::Refused(e) = state_str(source, UNIT) {
+        return Reading::Failed(e);
+    }
+    let amount = match input_amount(input, asked) {
+        Reading::Given(a) => a,
+        Reading::Failed(e) => return Reading::Failed(e),
+    };
+    let existing = match existing_amount(destination, held) {
+        Reading::Given(a) => a,
+        Reading::Failed(e) => return Reading::Failed(e),
+    };
+    given_or(existing.checked_add(amount), ProfileError::Overflow)
+}
+
+pub fn transfer_after_state(operation: u8, source: &[u8], destination: &[u8], input: &[u8]) -> Next
+    ensures { λ r. ⌜ r ≡ creditBy amountIn (sightOf (now (source .entry))) (sightOf (now (destination .entry))) (field (now (input .entry))) operation ⌝ }
+{
+    if operation == 5 {
+        return stack(
+            Part::Input(TO_SUBJECT),
+            Part::State(UNIT),
+            credited_amount(source, destination, input, QUANTITY, QUANTITY),
+        );
+    }
+    if operation == 15 {
+        return balance(
+            Part::Input(TO_SUBJECT),
+            Part::State(UNIT),
+            credited_amount(source, destination, input, BALANCE, AMOUNT),
+        );
+    }
+    Next::Refused(ProfileError::NoCredit)
+}
