@@ -3,16 +3,10 @@
 use std::path::{Path, PathBuf};
 use std::{env, fs};
 
-// The folder that has crates/statechronicle-core/src/amount.rs below it: where ORACLE_SRC
-// points, else ../shared/docs/src beside the repository.
+// The folder that has crates/statechronicle-core/src/amount.rs below it: where ORACLE_SRC points.
 fn tree() -> PathBuf {
     println!("cargo:rerun-if-env-changed=ORACLE_SRC");
-    let given = env::var_os("ORACLE_SRC").filter(|v| !v.is_empty());
-    let root = Path::new(&env::var_os("CARGO_MANIFEST_DIR").unwrap()).join("../../..");
-    let tree = match &given {
-        Some(path) => PathBuf::from(path),
-        None => root.join("../shared/docs/src"),
-    };
+    let tree = PathBuf::from(env::var_os("ORACLE_SRC").unwrap_or_default());
     let mark = tree.join("crates/statechronicle-core/src/amount.rs");
     if !mark.is_file() {
         eprintln!(

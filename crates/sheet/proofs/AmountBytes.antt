@@ -1,6 +1,6 @@
 -- "3 amount (17 bytes: mantissa, scale)": the bytes of an amount read back as the amount. The theorem is `amount-back`.
-use mathlib.Core.Path.{_≡_, refl}
-use mathlib.Core.List.{List, [], _∷_, _++_}
+use mathlib.Core.Path.{_≡_}
+use mathlib.Core.List.{List, _∷_, _++_}
 use Prim.Native.Nat.{ℕ, _+_, _*_, _/_, _%_, _<_, _^_}
 use native.Mathlib.Omega.{arith}
 use Rattle.amount.specs.declared.Amount.{Amount}

@@ -1,6 +1,6 @@
 -- "Bodies come next in table order, no gap, the last ending the sheet": in a sound sheet, each entry that lookup finds is
 -- allowed, has a length of its kind, and its body lies inside the sheet. The theorem is `held`.
-use mathlib.Core.Path.{_≡_, sym, ap, subst}
+use mathlib.Core.Path.{_≡_, sym, subst}
 use mathlib.Core.Bool.{Bool, true, _&&_}
 use mathlib.Core.List.{List}
 use Prim.Native.Nat.{ℕ, _+_, _≤_, _<_}

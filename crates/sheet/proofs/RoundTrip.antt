@@ -2,13 +2,12 @@
 -- written, for texts up to 256 bytes. The theorems are `stack-back`, `balance-back` and `meter-back`.
 use mathlib.Core.Path.{_≡_, refl, sym, ap, _∙_}
 use mathlib.Core.List.{List, [], _∷_, _++_}
-use mathlib.Core.Bool.{Bool, true, cond}
+use mathlib.Core.Bool.{true}
 use Prim.Native.Nat.{ℕ, _+_, _*_, _/_, _%_, _≤_, _<_, _^_}
 use native.Mathlib.Omega.{arith}
-use lib.ListN.{length, take, drop, length-append}
+use lib.ListN.{length, take, drop}
 use lib.Seq.{take-append-seam, drop-append-seam, drop-drop}
-use lib.Dec.{eqb}
-use borrow.Author.Tests.{le-leb, eq-eqb, ne-eqb, lt-ltb}
+use borrow.Author.Tests.{le-leb, eq-eqb, lt-ltb}
 use Rattle.amount.specs.declared.Amount.{Amount}
 use Rattle.sheet.specs.declared.Entry.{Entry}
 use Rattle.sheet.specs.declared.Form.{Form}
@@ -16,10 +15,9 @@ use Rattle.sheet.specs.declared.Shape.{Shape}
 use Rattle.sheet.specs.declared.Shape.the-variants.{Stack, Balance, Meter}
 use Rattle.sheet.specs.declared.State.{State}
 use Rattle.sheet.specs.declared.State.the-variants as State
-use Rattle.sheet.specs.declared.Found.the-variants.{At}
-use Rattle.sheet.specs.Sheet.{entryAt, entriesFrom, table, lookup, partOf, kindIn, lengthFits, entryFits, countFits, soundAs, stateOf, stackForm, balanceForm, meterForm}
+use Rattle.sheet.specs.Sheet.{entryAt, entriesFrom, table, partOf, lengthFits, entryFits, soundAs, stateOf, stackForm, balanceForm, meterForm}
 use Rattle.sheet.specs.Amounts.{amountAt, amountBytes}
-use Rattle.sheet.specs.Fields.{Field, text, whole, fieldOfKind, fieldOf, field, three}
+use Rattle.sheet.specs.Fields.{Field, text, whole, fieldOfKind, field, three}
 use Rattle.sheet.specs.Encode.{encode, formItems, stackSheet, balanceSheet, meterSheet}
 use Rattle.sheet.proofs.Walking.{Walked, walk-start, walk-turn, walk-end}
 use Rattle.sheet.proofs.Copying.{three-length}

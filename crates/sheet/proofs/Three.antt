@@ -1,10 +1,10 @@
 -- "A state sheet is a stack (1 and 2 text, 3 amount), a balance (1 and 2 text, 4 amount) or a meter (1 text, 5 and 6 amounts)":
 -- a sound state has exactly its three fields, and is of one kind. The theorems are `stack-has`, `balance-has`, `meter-has`
 -- and `stack-is`, `balance-is`, `meter-is`.
-use mathlib.Core.Path.{_≡_, refl, sym, ap, _∙_, subst}
+use mathlib.Core.Path.{_≡_, refl, sym, _∙_, subst}
 use mathlib.Core.Bool.{Bool, true, false, cond, false≢true}
 use mathlib.Core.List.{List, [], _∷_}
-use Prim.Native.Nat.{ℕ, _+_, _≤_, _<_}
+use Prim.Native.Nat.{ℕ, _≤_, _<_}
 use native.Mathlib.Omega.{arith}
 use lib.ListN.{length}
 use lib.Dec.{eqb}
@@ -16,7 +16,7 @@ use Rattle.sheet.specs.declared.Shape.the-variants.{Stack, Balance, Mete
 use Rattle.sheet.specs.declared.State.{State}
 use Rattle.sheet.specs.declared.State.the-variants as State
 use Rattle.sheet.specs.declared.Found.{Found}
-use Rattle.sheet.specs.declared.Found.the-variants.{At, Nothing}
+use Rattle.sheet.specs.declared.Found.the-variants.{At}
 use Rattle.sheet.specs.Walk.{prior}
 use Rattle.sheet.specs.Sheet.{
   entryAt,
@@ -38,7 +38,7 @@ use Rattle.sheet.specs.Sheet.{
   meterForm,
 }
 use Rattle.sheet.specs.Amounts.{amountAt}
-use Rattle.sheet.specs.Fields.{Field, text, whole, absent, fieldOfKind, fieldOf, field, three}
+use Rattle.sheet.specs.Fields.{text, whole, fieldOfKind, fieldOf, field, three}
 use Rattle.sheet.proofs.Holding.{Fits, Whole, whole-so, inside}
 
 -- the view of a table of three entries

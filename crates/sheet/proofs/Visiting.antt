@@ -1,10 +1,9 @@
 -- "A reader that holds the sheet and the next entry": its walk from entry 0 visits exactly the table's entries, in their order.
 -- The theorem is `visits`.
-use mathlib.Core.Path.{_≡_, refl, ap}
+use mathlib.Core.Path.{_≡_, ap}
 use mathlib.Core.List.{List, _∷_}
 use Prim.Native.Nat.{ℕ, zero, suc, _+_, _<_}
 use native.Mathlib.Omega.{arith}
-use lib.Dec.{ltb}
 use borrow.Author.Tests.{lt-ltb, le-ltb}
 use Rattle.sheet.specs.declared.Entry.{Entry}
 use Rattle.sheet.specs.Sheet.{entryAt, entriesFrom, count, table}

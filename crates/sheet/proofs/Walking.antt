@@ -1,6 +1,6 @@
 -- The walk over the table: what holds of the running values after k entries that fit, and the verdict at its end.
 use mathlib.Core.Path.{_≡_, refl, sym, ap, _∙_}
-use mathlib.Core.Bool.{Bool, true, false, cond}
+use mathlib.Core.Bool.{true, false}
 use mathlib.Core.List.{List}
 use Prim.Native.Nat.{ℕ, _+_, _*_, _<_}
 use native.Mathlib.Omega.{arith}
@@ -8,7 +8,7 @@ use lib.ListN.{length}
 use lib.Dec.{eqb}
 use Rattle.sheet.specs.declared.Entry.{Entry}
 use Rattle.sheet.specs.declared.Shape.{Shape}
-use Rattle.sheet.specs.declared.Verdict.the-variants.{Sound, Torn}
+use Rattle.sheet.specs.declared.Verdict.the-variants.{Torn}
 use Rattle.sheet.specs.Walk.{allTo, sumTo, prior}
 use Rattle.sheet.specs.Sheet.{fitsAt, entryAt, count, bodyAt, nameBefore, entryFits, entriesFit, countFits, soundAs, verdictOf}
 use Rattle.sheet.proofs.Tables.{all-step, all-stays, sum-step, prior-step}

@@ -1,6 +1,6 @@
 -- A table that is walked from its first entry: tests that all pass, a running sum, and the value before.
 -- They serve every table of a count, entries of one size, and bodies without a gap.
-use mathlib.Core.Bool.{Bool, true, false, _&&_}
+use mathlib.Core.Bool.{Bool, true, _&&_}
 use Prim.Native.Nat.{ℕ, zero, suc, _+_}
 
 -- the first k tests pass

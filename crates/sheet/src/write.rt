@@ -1,8 +1,7 @@
 // Writes state sheets into a lent buffer. A buffer that is too short keeps every byte, and bytes behind the sheet stay.
 ghost use mathlib.Core.Path.{_≡_};
-ghost use mathlib.Core.List.{List, [], _∷_};
-ghost use Prim.Native.Nat.{_<_, _≤_, _+_, _*_, _/_, _%_};
-ghost use lib.ListN.{length, take, drop};
+ghost use Prim.Native.Nat.{_<_, _≤_, _+_, _/_, _%_};
+ghost use lib.ListN.{length};
 ghost use Rattle.sheet.specs.Encode.{encode, formItems, stackSheet, balanceSheet, meterSheet, headOf, overlay, putInto, putAnswer};
 use super::BALANCE_FORM;
 use super::Form;

@@ -1,5 +1,4 @@
-use borrow.Author.Tests.{lt-ltb, le-ltb}
-use mathlib.Core.Path.{_≡_, sym, ap, _∙_}
+use mathlib.Core.Path.{sym, ap, _∙_}
 use Prim.Native.Nat.{_≤_, _-_}
 use native.Mathlib.Nat.{add-sub-cancel-left}
 use native.Mathlib.Omega.{arith}

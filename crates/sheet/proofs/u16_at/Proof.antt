@@ -1,5 +1,5 @@
 use native.Mathlib.Omega.{arith}
-use Prim.Native.Nat.{ℕ, _≤_, _+_}
+use Prim.Native.Nat.{_≤_, _+_}
 use lib.ListN.{length, List·getD-eq-default}
 use denote.Ref.{now}
 use borrow.Author.Needs.{needs}

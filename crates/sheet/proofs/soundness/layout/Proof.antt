@@ -1,13 +1,11 @@
 use borrow.Author.Needs.{needs}
 use borrow.Author.Tests.{not-true, not-false, eq-eqb, ne-eqb}
-use mathlib.Core.Path.{_≡_, sym, ap, _∙_, subst}
-use mathlib.Core.Bool.{true, false, cond}
-use Prim.Native.Nat.{ℕ, _≤_, _<_, _+_, _*_, _-_}
-use native.Mathlib.Nat.{le-antisymm}
+use mathlib.Core.Path.{_≡_, sym, _∙_}
+use mathlib.Core.Bool.{true}
+use Prim.Native.Nat.{_≤_, _+_, _*_, _-_}
 use native.Mathlib.Omega.{arith}
 use lib.ListN.{length}
 use lib.Dec.{eqb}
-use Rattle.sheet.specs.declared.Verdict.the-variants.{Sound, Torn}
 use denote.Ref.{now}
 use Rattle.sheet.specs.Sheet.{count, countFits, soundAs}
 use Rattle.sheet.proofs.Walking.{Walked, walk-start, walk-turn, walk-torn, torn-count, torn-entry, walk-end}

@@ -3,7 +3,6 @@ use Rattle.transition.specs.declared.resource_state.Part.the-variants.{S
 use Rattle.transition.specs.Next.{meter-of, kept}
 use Rattle.transition.specs.Apply.{metering}
 use Rattle.transition.proofs.Laws.{amount-failed, amount-given, next-refused}
-use mathlib.Core.Path.{sym, _∙_}
 use borrow.Author.Needs.{needs}
 use Rattle.transition.proofs.meter.refill.Statement.{statement}
 use Rattle.transition.proofs.meter.refill.Tie as tie

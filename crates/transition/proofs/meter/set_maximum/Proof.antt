@@ -1,3 +1,8 @@
+use mathlib.Core.Path.{ap, _∙_}
+use Rattle.amount.specs.declared.Amount.{Amount}
+use Rattle.transition.specs.Next.{meterOf}
+use Rattle.transition.specs.declared.resource_state.Part.the-variants as Part
+use Rattle.transition.specs.declared.resource_state.Next.the-variants as Next
 use borrow.Author.Needs.{needs}
 use Rattle.transition.proofs.meter.set_maximum.Statement.{statement}
 use Rattle.transition.proofs.meter.set_maximum.Tie as tie
@@ -57,7 +62,7 @@ meter-requires : tie.Need-meter-requires
 meter-requires c κs = search needs
 
 returns-5 : tie.Need-returns-5
-returns-5 c = rw (← c .before .before .before .before .before .before .before .before .before .before .before .before .before .before .before .require-current .ensures, c .before .before .before .before .before .before .before .before .before .before .before .before .before .enum-told .given .1, ← c .before .before .before .before .before .before .before .before .before .before .before .before .state-str .ensures, c .before .before .before .before .before .before .before .before .before .before .enum-told2 .given .1, ← c .before .before .before .before .before .before .before .before .before .state-amount .ensures, c .before .before .before .before .before .before .before .a .given .1, ← c .before .before .before .before .before .input-amount .ensures, c .before .before .before .a2 .given .1, ← c .before .min .ensures) (c .meter .ensures)
+returns-5 c = rw (← c .before .before .before .before .before .before .before .before .before .before .before .before .before .before .before .require-current .ensures, c .before .before .before .before .before .before .before .before .before .before .before .before .before .enum-told .given .1, ← c .before .before .before .before .before .before .before .before .before .before .before .before .state-str .ensures, c .before .before .before .before .before .before .before .before .before .before .enum-told2 .given .1, ← c .before .before .before .before .before .before .before .before .before .state-amount .ensures, c .before .before .before .before .before .before .before .a .given .1, ← c .before .before .before .before .before .input-amount .ensures, c .before .before .before .a2 .given .1) (c .meter .ensures ∙ ap (λ (m : Amount). Next.State (meterOf (Part.State 1) m (c .before .before .before .a2 .given .0 .0))) (c .before .min .ensures))
 
 pub set-maximum-spec : {M : Type 1} → statement M
 set-maximum-spec =
