@@ -1,6 +1,6 @@
 //! The recorded list: a fixed choice of the Rust's answers, in a form that is easy to replay.
-//! oracle/recorded.bin is what `tools/oracle record 2026 6000` writes; the same command checks it:
-//! `tools/oracle record 2026 6000 | cmp - oracle/recorded.bin`.
+//! crates/replay/stdin is what `tools/oracle record 2026 6000` writes; the same command checks it:
+//! `tools/oracle record 2026 6000 | cmp - crates/replay/stdin`. The gate replays it by crates/replay.
 //!
 //! A sequence of records to the end of the file, multi-byte numbers little-endian:
 //!
