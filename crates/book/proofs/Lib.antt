@@ -3,6 +3,7 @@ pub mod Tables
 pub mod Names
 pub mod Rows
 pub mod Facts
+pub mod Formed
 pub mod Views
 pub mod Invariant
 pub mod Opens

@@ -1,4 +1,4 @@
--- There is an order of finishing: the claim on orders is not empty.
+-- The members of a set of transfers, each once: an order of finishing.
 use mathlib.Core.Path.{_≡_, refl, sym, _∙_}
 use mathlib.Core.Logic.{_≢_}
 use mathlib.Core.Bool.{Bool, true, false, cond}

@@ -1,7 +1,7 @@
 -- What a book shows after each of its alterations, and what stays sound: all that the proofs of the steps know of a book.
 use mathlib.Core.Path.{_≡_, refl, sym, ap, _∙_}
 use mathlib.Core.Logic.{_≢_}
-use mathlib.Core.Bool.{Bool, true, false, cond, _&&_, true≢false, false≢true}
+use mathlib.Core.Bool.{Bool, true, false, cond, true≢false, false≢true}
 use mathlib.Core.Option.{Option, some, none}
 use mathlib.Core.List.{List}
 use Prim.Native.Nat.{ℕ, _+_, _^_, _<_}
@@ -9,14 +9,15 @@ use native.Mathlib.Decide.{decLt}
 use native.Mathlib.Omega.{arith}
 use lib.Dec.{eqb}
 use lib.ListN.{length, getD, set, length-set}
-use borrow.Author.Tests.{eq-eqb, ne-eqb, eqb-true, lt-ltb}
+use borrow.Author.Tests.{eq-eqb, ne-eqb, eqb-true}
 use Rattle.amount.specs.Numbers.{limit}
 use Rattle.book.specs.Sets.{bit, withBit, entry, sum}
 use Rattle.book.specs.Book.{credits, wholeAmount, blankTransfer, noPlace, noTransfer, placeRecord, transferRecord, placeAt, transferAt, balanceOf, loadOf, total, isSome, nameOk, placeOk, transferOk, wellFormed, setBalance, setOpened, setPlaces, openPlace, setCredits, setTransfer}
 use Rattle.book.specs.declared.Place.{Place}
 use Rattle.book.specs.declared.Transfer.{Transfer}
 use Rattle.book.specs.declared.Book.{Book}
-use Rattle.book.proofs.Tables.{Altered, altered-map, altered-all, get-set, bit-high, withBit-lt, entry-in, entry-out, entry-put, entry-set, entry-drop, sum-same, sum-zero, sum-altered, every-true}
+use Rattle.book.proofs.Tables.{Altered, altered-map, altered-all, get-set, bit-high, withBit-lt, entry-in, entry-out, entry-put, entry-set, entry-drop, sum-same, sum-zero, sum-altered}
+use Rattle.book.proofs.Formed.{and-l, and-r, well-formed}
 
 -- ---- the shape of a book: lengths, ranges, and all scales 0, in use or not
 
@@ -225,14 +226,6 @@ pub record Good (b : Book) : Type 0 where
   pub places : (p : ℕ) → p < 16 → placeOk (placeAt b p) ≡ true
   pub transfers : (t : ℕ) → t < 8 → transferOk b (transferAt b t) ≡ true
 
-pub and-l : (s t : Bool) → s && t ≡ true → s ≡ true
-and-l true t h = refl
-and-l false t h = h
-
-pub and-r : (s t : Bool) → s && t ≡ true → t ≡ true
-and-r true t h = h
-and-r false t h = absurd (false≢true h)
-
 -- the ends of a sound transfer are open
 pub home-open : (b : Book) (r : Transfer) (k : Bool) → transferOk b (some r) ≡ true → isSome (placeAt b (home k r)) ≡ true
 home-open b r true h = and-l (isSome (placeAt b (r .from))) (isSome (placeAt b (r .to))) h
@@ -275,15 +268,16 @@ good-transfer {b} {c} {t} {y} e k g =
 
 -- a sound book passes the test of refusal 28
 pub passes-28 : (b : Book) → Good b → total b < limit → wellFormed b ≡ true
-unfolding wellFormed
 passes-28 b g h =
-    rw (
-      lt-ltb (total b) limit h,
-      g .unit,
-      every-true (λ p. placeOk (placeAt b p)) 16 (g .places),
-      every-true (λ p. eqb (placeRecord b p .balance .scale) 0) 16 (λ p k. eq-eqb (placeRecord b p .balance .scale) 0 (g .shape .whole-places p k)),
-      every-true (λ t. eqb (transferRecord b t .amount .scale) 0) 8 (λ t k. eq-eqb (transferRecord b t .amount .scale) 0 (g .shape .whole-transfers t k)),
-      every-true (λ t. transferOk b (transferAt b t)) 8 (g .transfers),
+    well-formed b (
+    record {
+      fits = h;
+      unit = g .unit;
+      places = g .places;
+      whole-places = g .shape .whole-places;
+      whole-transfers = g .shape .whole-transfers;
+      transfers = g .transfers;
+    }
     )
 
 -- nothing is coming to a place that is not open

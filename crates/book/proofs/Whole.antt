@@ -29,6 +29,7 @@ use Rattle.book.proofs.Tables.{bit-lt, bit-same, bit-other, bit-high, b
 use Rattle.book.proofs.Names.{name-bytes, name-ok}
 use Rattle.book.proofs.Facts.{passed, unmet, refused-never}
 use Rattle.book.proofs.Views.{Shape, passes-28, none-coming}
+use Rattle.book.proofs.Orders.{members, an-order}
 use Rattle.book.proofs.Invariant.{forth, Inv, Kept, credited, holding}
 use Rattle.book.proofs.Opens.{keptOpen}
 use Rattle.book.proofs.Acts.{keptAct}
@@ -223,20 +224,20 @@ settle (t ∷ ts) b l v o =
 
 -- ---- the whole
 
+from-start : (u : List ℕ) → startAnswer u ≡ Accepted → (ss : List Step) → Lists u (startBook u) emptyPlain ss
+from-start u h ss = lists ss u (startBook u) emptyPlain (unit-fresh u h) (start u h forth)
+
 pub demand3 : Claim
 demand3 u h steps =
     record {
       throughout = λ n. sound (take n steps);
-      plain-accepts = from-start steps .plain;
-      settles = λ order o. settle order (run (startBook u) steps) _ (from-start steps .inv) o;
+      plain-accepts = from-start u h steps .plain;
+      settles = λ order o. settle order (run (startBook u) steps) _ (from-start u h steps .inv) o;
     }
   where
-    from-start : (ss : List Step) → Lists u (startBook u) emptyPlain ss
-    from-start ss = lists ss u (startBook u) emptyPlain (unit-fresh u h) (start u h forth)
-
     sound : (ss : List Step) → Sound (run (startBook u) ss) (acceptedOf (startBook u) ss)
     sound ss =
-        let k = from-start ss in
+        let k = from-start u h ss in
         record {
           conserved = omega (arith, k .moved, total-fresh u h);
           under-way = λ t.
@@ -245,3 +246,8 @@ demand3 u h steps =
           finishable = λ t m. finishable forth (run (startBook u) ss) _ (k .inv) t m;
           well-formed = passes-28 (run (startBook u) ss) (k .inv .good) (k .inv .fits);
         }
+
+-- there is an order of finishing: the claim on orders is not empty
+pub some-order : (u : List ℕ) → startAnswer u ≡ Accepted → (steps : List Step)
+    → EachOnce (run (startBook u) steps) (members (run (startBook u) steps .pending) 8)
+some-order u h steps = an-order (run (startBook u) steps) (from-start u h steps .inv .good .shape)
