@@ -12,7 +12,7 @@ use lib.ListN.{length, getD, set, length-set}
 use borrow.Author.Tests.{eq-eqb, ne-eqb, eqb-true}
 use Rattle.amount.specs.Numbers.{limit}
 use Rattle.book.specs.Sets.{bit, withBit, entry, sum}
-use Rattle.book.specs.Book.{credits, wholeAmount, blankTransfer, noPlace, noTransfer, placeRecord, transferRecord, placeAt, transferAt, balanceOf, loadOf, total, isSome, nameOk, placeOk, transferOk, wellFormed, setBalance, setOpened, setPlaces, openPlace, setCredits, setTransfer}
+use Rattle.book.specs.Book.{credits, wholeAmount, blankTransfer, noPlace, noTransfer, placeRecord, transferRecord, placeAt, transferAt, balanceOf, loadOf, balances, loads, total, isSome, nameOk, placeOk, transferOk, wellFormed, setBalance, setOpened, setPlaces, openPlace, setCredits, setTransfer}
 use Rattle.book.specs.declared.Place.{Place}
 use Rattle.book.specs.declared.Transfer.{Transfer}
 use Rattle.book.specs.declared.Book.{Book}
@@ -182,7 +182,7 @@ toward-miss k p r e = rw (ne-eqb (home k r) p e)
 
 module _ {b c : Book} {p : ℕ} {x : Option Place} (e : PlaceSet b c p x) where
   pub total-place : p < 16 → total c + balanceOf (placeAt b p) ≡ total b + balanceOf x
-  unfolding total
+  unfolding total balances loads
   total-place h =
       omega (
         arith,
@@ -197,7 +197,7 @@ module _ {b c : Book} {p : ℕ} {x : Option Place} (e : PlaceSet b c p x) where
 
 module _ {b c : Book} {t : ℕ} {y : Option Transfer} (e : TransferSet b c t y) where
   pub total-transfer : t < 8 → total c + loadOf (transferAt b t) ≡ total b + loadOf y
-  unfolding total
+  unfolding total balances loads
   total-transfer h =
       omega (
         arith,

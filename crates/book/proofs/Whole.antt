@@ -15,7 +15,7 @@ use Rattle.amount.specs.Numbers.{limit}
 use Rattle.sheet.specs.Fields.{unit}
 use Rattle.profiles.specs.declared.error.ProfileError.the-variants.{Empty}
 use Rattle.book.specs.Sets.{bit, withBit, every, count}
-use Rattle.book.specs.Book.{nameBytes, nameOf, blankPlace, blankTransfer, blankBook, noPlace, noTransfer, placeRecord, transferRecord, placeAt, transferAt, balanceOf, loadOf, total, nameOk, wellFormed, setUnit, setCredits, setTransfer}
+use Rattle.book.specs.Book.{nameBytes, nameOf, blankPlace, blankTransfer, blankBook, noPlace, noTransfer, placeRecord, transferRecord, placeAt, transferAt, balanceOf, loadOf, balances, loads, total, nameOk, wellFormed, setUnit, setCredits, setTransfer}
 use Rattle.book.specs.Steps.{Step, Open, Act, Begin, Finish, refusedIf, firstRefusal, testsOf, seen, answer, effect, next, startAnswer, startBook}
 use Rattle.book.specs.Plain.{Holding, Plain, emptyPlain, worth, plainTotal, plainAnswer, plainEffect, plainNext}
 use Rattle.book.specs.Claim.{run, acceptedOf, plainRun, PlainAccepts, issued, taken, Route, route, underWay, cellAt, EachOnce, Sound, Settled, Claim}
@@ -148,7 +148,7 @@ module _ (u : List ℕ) (h : startAnswer u ≡ Accepted) where
   no-transfer t = rw fresh (entry-out noTransfer 0 (replicate 8 blankTransfer) t (bit-zero t))
 
   total-fresh : total (startBook u) ≡ 0
-  unfolding total
+  unfolding total balances loads
   total-fresh =
       omega (
         arith,

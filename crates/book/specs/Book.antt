@@ -101,9 +101,15 @@ abbrev pub loadOf : Option Transfer → ℕ
 loadOf none = 0
 loadOf (some r) = credits (r .amount)
 
--- the open places' balances plus all under way
+-- the open places' balances, and the credits under way
+unfoldable pub balances : Book → ℕ
+balances b = sum (λ p. balanceOf (placeAt b p)) 16
+
+unfoldable pub loads : Book → ℕ
+loads b = sum (λ t. loadOf (transferAt b t)) 8
+
 unfoldable pub total : Book → ℕ
-total b = sum (λ p. balanceOf (placeAt b p)) 16 + sum (λ t. loadOf (transferAt b t)) 8
+total b = balances b + loads b
 
 -- ---- refusal 28
 
