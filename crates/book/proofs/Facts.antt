@@ -15,9 +15,11 @@ use Rattle.profiles.specs.Balance.{balanceRules}
 use Rattle.profiles.specs.declared.error.Outcome.{Outcome}
 use Rattle.profiles.specs.declared.error.Outcome.the-variants as Check
 use Rattle.profiles.specs.declared.error.ProfileError.the-variants.{UnknownOperation, Born, Unborn}
-use Rattle.book.specs.Steps.{creditsIn, bytesIn, adds, acts, refusedIf, said, firstRefusal, sameBytes, Seen, sheetSound, sentTo, testsOpen, testsAct, testsBegin, testsFinish}
+use Rattle.book.specs.Book.{wellFormed}
+use Rattle.book.specs.Steps.{creditsIn, bytesIn, adds, acts, refusedIf, said, firstRefusal, sameBytes, Seen, sheetSound, sentTo, testsOpen, testsAct, testsBegin, testsFinish, Step, testsOf, seen, answer}
+use Rattle.book.specs.declared.Book.{Book}
 use Rattle.book.specs.declared.error.BookError.{BookError}
-use Rattle.book.specs.declared.error.BookError.the-variants.{Profile, UnderWay, OffTheBook, Idle, Itself, TooMuch, OtherUnit, LongName}
+use Rattle.book.specs.declared.error.BookError.the-variants.{Profile, UnderWay, OffTheBook, Idle, Itself, TooMuch, OtherUnit, LongName, BadBook}
 use Rattle.book.specs.declared.error.BookOutcome.{BookOutcome}
 use Rattle.book.specs.declared.error.BookOutcome.the-variants.{Accepted, Refused}
 
@@ -66,6 +68,16 @@ both-l false t h = absurd (true≢false h)
 both-r : (s t : Bool) → not (s && t) ≡ false → t ≡ true
 both-r true t h = not-false t h
 both-r false t h = absurd (true≢false h)
+
+-- 28 and the rest
+pub accepted-tests : (b : Book) (s : Step) → answer b s ≡ Accepted → (wellFormed b ≡ true) × (firstRefusal (testsOf (seen b) s) ≡ Accepted)
+unfolding answer
+accepted-tests b s h = go (wellFormed b) refl h
+  where
+    go : (w : Bool) → wellFormed b ≡ w → firstRefusal (refusedIf (not w) BadBook ∷ testsOf (seen b) s) ≡ Accepted
+        → (wellFormed b ≡ true) × (firstRefusal (testsOf (seen b) s) ≡ Accepted)
+    go true e k = (e, k)
+    go false e k = refused-never BadBook k
 
 -- ---- open
 

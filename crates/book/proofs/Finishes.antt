@@ -66,7 +66,7 @@ module _ (b : Book) (l : Plain) (t : ℕ) (d d′ : ℕ → Bool) (k : Bool) (fa
       here = home-open b r k (rw is-r at (v .good .transfers t small))
 
       low : g < 16
-      low = open-lt b (v .good .shape) g here
+      low = open-lt b (v .good .shape .opened) g here
 
       m : Book
       m = setCredits b g (heldAt b g + n)

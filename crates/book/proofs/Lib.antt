@@ -13,3 +13,4 @@ pub mod Finishes
 pub mod Whole
 pub mod Orders
 pub mod Worked
+pub mod Effects

@@ -23,7 +23,7 @@ use Rattle.places.proofs.Accepted.{Within, then-both, debit-accepted, debit-acc
 use Rattle.book.specs.Book.{credits}
 use Rattle.book.specs.Steps.{adds, acts, bytesIn}
 
-refused-never : {A : Type 0} (e : ProfileError) → Refused e ≡ Accepted → A
+pub refused-never : {A : Type 0} (e : ProfileError) → Refused e ≡ Accepted → A
 refused-never e h = let z : _≡_ {A = ℕ} 0 1 = cc in absurd (omega arith)
 
 -- ---- create

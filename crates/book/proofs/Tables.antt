@@ -148,6 +148,16 @@ sum-altered {f} {g} {p} {x} a (suc n) h = go (ℕ-discrete n p) (λ k. sum-alter
         omega (arith, ap f e)
     go (no e) r = omega (arith, r (omega arith), a .elsewhere n e)
 
+-- each is at most the sum
+pub sum-part : (f : ℕ → ℕ) (n p : ℕ) → p < n → f p ≤ sum f n
+unfolding sum
+sum-part f zero p h = absurd (not-suc-le-zero h)
+sum-part f (suc n) p h = go (ℕ-discrete p n) (λ k. sum-part f n p k)
+  where
+    go : Dec (p ≡ n) → (p < n → f p ≤ sum f n) → f p ≤ sum f n + f n
+    go (yes e) r = omega (arith, ap f e)
+    go (no e) r = omega (arith, r (omega arith))
+
 pub every-true : (f : ℕ → Bool) (n : ℕ) → ((i : ℕ) → i < n → f i ≡ true) → every f n ≡ true
 unfolding every
 every-true f zero h = refl

@@ -53,12 +53,12 @@ unfolding transferAt transferRecord
 transfer-in b t h = entry-in noTransfer (b .pending) (b .transfers) t h
 
 -- only places below 16 are open
-pub open-lt : (b : Book) → Shape b → (p : ℕ) → isSome (placeAt b p) ≡ true → p < 16
+pub open-lt : (b : Book) → b .opened < 2 ^ 16 → (p : ℕ) → isSome (placeAt b p) ≡ true → p < 16
 open-lt b s p h = go (decLt p 16)
   where
     go : Dec (p < 16) → p < 16
     go (yes l) = l
-    go (no m) = let z : bit (b .opened) p ≡ 0 = bit-high 16 (b .opened) p (s .opened) (omega arith) in absurd (omega (arith, place-raw b p h .0))
+    go (no m) = let z : bit (b .opened) p ≡ 0 = bit-high 16 (b .opened) p s (omega arith) in absurd (omega (arith, place-raw b p h .0))
 
 pub pending-lt : (b : Book) → Shape b → (t : ℕ) → bit (b .pending) t ≡ 1 → t < 8
 pending-lt b s t h = go (decLt t 8)

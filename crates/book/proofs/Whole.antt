@@ -1,7 +1,7 @@
 -- DEMAND 3, proved: the claim of specs/Claim over every accepted start and every list of steps.
 use mathlib.Core.Path.{_≡_, refl, sym, ap, _∙_, subst, fun-ext}
 use mathlib.Core.Logic.{_≢_}
-use mathlib.Core.Bool.{Bool, true, not}
+use mathlib.Core.Bool.{Bool, true}
 use mathlib.Core.Option.{Option, some, none}
 use mathlib.Core.List.{List, [], _∷_}
 use Prim.Native.Nat.{ℕ, _+_, zero-le}
@@ -15,19 +15,19 @@ use Rattle.amount.specs.Numbers.{limit}
 use Rattle.sheet.specs.Fields.{unit}
 use Rattle.profiles.specs.declared.error.ProfileError.the-variants.{Empty}
 use Rattle.book.specs.Sets.{bit, withBit, every, count}
-use Rattle.book.specs.Book.{nameBytes, nameOf, blankPlace, blankTransfer, blankBook, noPlace, noTransfer, placeRecord, transferRecord, placeAt, transferAt, balanceOf, loadOf, balances, loads, total, nameOk, wellFormed, setUnit, setCredits, setTransfer}
+use Rattle.book.specs.Book.{nameBytes, nameOf, blankPlace, blankTransfer, blankBook, noPlace, noTransfer, placeRecord, transferRecord, placeAt, transferAt, balanceOf, loadOf, balances, loads, total, nameOk, setUnit, setCredits, setTransfer}
 use Rattle.book.specs.Steps.{Step, Open, Act, Begin, Finish, refusedIf, firstRefusal, testsOf, seen, answer, effect, next, startAnswer, startBook}
 use Rattle.book.specs.Plain.{Holding, Plain, emptyPlain, worth, plainTotal, plainAnswer, plainEffect, plainNext}
 use Rattle.book.specs.Claim.{run, acceptedOf, plainRun, PlainAccepts, issued, taken, Route, route, underWay, cellAt, EachOnce, Sound, Settled, Claim}
 use Rattle.book.specs.declared.Name.{Name}
 use Rattle.book.specs.declared.Book.{Book}
 use Rattle.book.specs.declared.error.BookError.{BookError}
-use Rattle.book.specs.declared.error.BookError.the-variants.{Profile, LongName, BadBook}
+use Rattle.book.specs.declared.error.BookError.the-variants.{Profile, LongName}
 use Rattle.book.specs.declared.error.BookOutcome.{BookOutcome}
 use Rattle.book.specs.declared.error.BookOutcome.the-variants.{Accepted, Refused}
 use Rattle.book.proofs.Tables.{bit-lt, bit-same, bit-other, bit-high, bits-zero, entry-out, sum-zero, every-at}
 use Rattle.book.proofs.Names.{name-bytes, name-ok}
-use Rattle.book.proofs.Facts.{passed, unmet, refused-never}
+use Rattle.book.proofs.Facts.{passed, unmet, accepted-tests}
 use Rattle.book.proofs.Views.{Shape, passes-28, none-coming}
 use Rattle.book.proofs.Orders.{members, an-order}
 use Rattle.book.proofs.Invariant.{forth, Inv, Kept, credited, holding}
@@ -38,13 +38,8 @@ use Rattle.book.proofs.Finishes.{keptFinish, finishable}
 
 -- ---- one step: a case for each kind
 
-rest-passed : (t : BookOutcome) (ts : List BookOutcome) → firstRefusal (t ∷ ts) ≡ Accepted → firstRefusal ts ≡ Accepted
-rest-passed Accepted ts h = h
-rest-passed (Refused e) ts h = refused-never e h
-
 kept : (b : Book) (l : Plain) (s : Step) → Inv forth b l → answer b s ≡ Accepted → Kept forth b l s
-unfolding answer
-kept b l s v h = go s (rest-passed (refusedIf (not (wellFormed b)) BadBook) (testsOf (seen b) s) h)
+kept b l s v h = go s (accepted-tests b s h .1)
   where
     go : (s : Step) → firstRefusal (testsOf (seen b) s) ≡ Accepted → Kept forth b l s
     go (Open p i) t = keptOpen b l p i forth v t
