@@ -88,7 +88,7 @@ pub record Opens (s : Seen) (p : ℕ) (i : List ℕ) : Type 0 where
   pub check : balanceRules amountIn (s .place p) (field i) 11 ≡ Check.Accepted
   pub same-unit : sameBytes (s .unit) (bytesIn unit i) ≡ true
   pub short : length (bytesIn subject i) ≤ 32
-  pub room : s .sum· + creditsIn balance i < limit
+  pub room : s .total + creditsIn balance i < limit
 
 module _ (s : Seen) (p : ℕ) (i : List ℕ) where
   pub opens : firstRefusal (testsOpen s p i) ≡ Accepted → Opens s p i
@@ -102,7 +102,7 @@ module _ (s : Seen) (p : ℕ) (i : List ℕ) where
         check = said-so (balanceRules amountIn (s .place p) (field i) 11) (t .1 .1 .1 .0);
         same-unit = not-false (sameBytes (s .unit) (bytesIn unit i)) (unmet (not (sameBytes (s .unit) (bytesIn unit i))) OtherUnit (t .1 .1 .1 .1 .0));
         short = ltb-false 32 (length (bytesIn subject i)) (unmet (ltb 32 (length (bytesIn subject i))) (LongName subject) (t .1 .1 .1 .1 .1 .0));
-        room = leb-false limit (s .sum· + creditsIn balance i) (unmet (leb limit (s .sum· + creditsIn balance i)) TooMuch (t .1 .1 .1 .1 .1 .1 .0));
+        room = leb-false limit (s .total + creditsIn balance i) (unmet (leb limit (s .total + creditsIn balance i)) TooMuch (t .1 .1 .1 .1 .1 .1 .0));
       }
 
   pub opened : Opens s p i → firstRefusal (testsOpen s p i) ≡ Accepted
@@ -120,7 +120,7 @@ module _ (s : Seen) (p : ℕ) (i : List ℕ) where
                 met-not (not (sameBytes (s .unit) (bytesIn unit i))) OtherUnit (ap not (f .same-unit)),
                 (
                   met-not (ltb 32 (length (bytesIn subject i))) (LongName subject) (le-ltb 32 (length (bytesIn subject i)) (f .short)),
-                  (met-not (leb limit (s .sum· + creditsIn balance i)) TooMuch (lt-leb limit (s .sum· + creditsIn balance i) (f .room)), tt),
+                  (met-not (leb limit (s .total + creditsIn balance i)) TooMuch (lt-leb limit (s .total + creditsIn balance i) (f .room)), tt),
                 ),
               ),
             ),
@@ -136,7 +136,7 @@ pub record Acts (s : Seen) (p o : ℕ) (i : List ℕ) : Type 0 where
   pub sheet : sheetSound i ≡ Accepted
   pub operation : acts o ≡ true
   pub check : balanceRules amountIn (s .place p) (field i) o ≡ Check.Accepted
-  pub room : adds o && leb limit (s .sum· + creditsIn amount i) ≡ false
+  pub room : adds o && leb limit (s .total + creditsIn amount i) ≡ false
 
 module _ (s : Seen) (p o : ℕ) (i : List ℕ) where
   pub acts-so : firstRefusal (testsAct s p o i) ≡ Accepted → Acts s p o i
@@ -149,7 +149,7 @@ module _ (s : Seen) (p o : ℕ) (i : List ℕ) where
         sheet = t .1 .1 .0;
         operation = not-false (acts o) (unmet (not (acts o)) (Profile UnknownOperation) (t .1 .1 .1 .0));
         check = said-so (balanceRules amountIn (s .place p) (field i) o) (t .1 .1 .1 .1 .0);
-        room = unmet (adds o && leb limit (s .sum· + creditsIn amount i)) TooMuch (t .1 .1 .1 .1 .1 .0);
+        room = unmet (adds o && leb limit (s .total + creditsIn amount i)) TooMuch (t .1 .1 .1 .1 .1 .0);
       }
 
   pub acted : Acts s p o i → firstRefusal (testsAct s p o i) ≡ Accepted
@@ -163,7 +163,7 @@ module _ (s : Seen) (p o : ℕ) (i : List ℕ) where
             f .sheet,
             (
               met-not (not (acts o)) (Profile UnknownOperation) (ap not (f .operation)),
-              (ap said (f .check), (met-not (adds o && leb limit (s .sum· + creditsIn amount i)) TooMuch (f .room), tt)),
+              (ap said (f .check), (met-not (adds o && leb limit (s .total + creditsIn amount i)) TooMuch (f .room), tt)),
             ),
           ),
         ),

@@ -38,7 +38,7 @@ plainView u (some h) = placeView (h .subject) u (wholeAmount (h .balance))
 
 -- no transfer number is in use in it: without 21
 unfoldable pub plainSeen : List ℕ → Plain → Seen
-plainSeen u l = record { unit = u; place = λ p. plainView u (l p); busy = λ t. false; sum· = plainTotal l }
+plainSeen u l = record { unit = u; place = λ p. plainView u (l p); busy = λ t. false; total = plainTotal l }
 
 -- open, act and begin are refused as in the book, without 28 and 21; finish never
 abbrev pub plainTests : List ℕ → Plain → Step → List BookOutcome

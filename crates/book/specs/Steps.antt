@@ -40,10 +40,11 @@ creditsIn name i = credits (readAmount (amountIn name (field i name)))
 unfoldable pub bytesIn : ℕ → List ℕ → List ℕ
 bytesIn name i = bytesOf (field i name)
 
--- the operations of act: those that add, and those that subtract
+-- the operations of act that add; the rest of them subtract
 unfoldable pub adds : ℕ → Bool
 adds o = among o (12 ∷ 13 ∷ 17 ∷ [])
 
+-- all of them
 unfoldable pub acts : ℕ → Bool
 acts o = among o (12 ∷ 13 ∷ 14 ∷ 16 ∷ 17 ∷ 18 ∷ 19 ∷ [])
 
@@ -79,7 +80,7 @@ pub record Seen : Type 0 where
   pub unit : List ℕ
   pub place : ℕ → Sight
   pub busy : ℕ → Bool
-  pub sum· : ℕ
+  pub total : ℕ
 
 -- 2
 abbrev pub sheetSound : List ℕ → BookOutcome
@@ -102,7 +103,7 @@ testsOpen s p i =
     ∷ checkAt s p (field i) 11
     ∷ refusedIf (not (sameBytes (s .unit) (bytesIn unit i))) OtherUnit
     ∷ refusedIf (ltb 32 (length (bytesIn subject i))) (LongName subject)
-    ∷ refusedIf (leb limit (s .sum· + creditsIn balance i)) TooMuch
+    ∷ refusedIf (leb limit (s .total + creditsIn balance i)) TooMuch
     ∷ []
 
 -- act: 22, 6, 2, 4 unless 12, 13, 14, 16, 17, 18, 19; check; 25, which only what adds can meet
@@ -113,7 +114,7 @@ testsAct s p o i =
     ∷ sheetSound i
     ∷ refusedIf (not (acts o)) (Profile UnknownOperation)
     ∷ checkAt s p (field i) o
-    ∷ refusedIf (adds o && leb limit (s .sum· + creditsIn amount i)) TooMuch
+    ∷ refusedIf (adds o && leb limit (s .total + creditsIn amount i)) TooMuch
     ∷ []
 
 -- begin: 22, 24, 21, 6 (either place), 2, balance.transfer's check
@@ -151,7 +152,7 @@ seen b =
       unit = nameBytes (b .unit);
       place = λ p. viewOf (nameBytes (b .unit)) (placeAt b p);
       busy = λ t. isSome (transferAt b t);
-      sum· = total b;
+      total = total b;
     }
 
 -- THE ANSWER: 28 first
