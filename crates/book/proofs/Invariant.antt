@@ -1,0 +1,132 @@
+-- What holds of a book and the plain book between any two steps, and what each kind of step has to show.
+-- A fate d says of each transfer number whether its credits go back in the end: requests that end a transfer otherwise than by
+-- finish turn it. Where no step does, it is `forth`.
+use mathlib.Core.Path.{_≡_, refl, sym, ap, _∙_}
+use mathlib.Core.Bool.{Bool, true, false, true≢false}
+use mathlib.Core.Option.{Option, some, none}
+use mathlib.Core.List.{List}
+use Prim.Native.Nat.{ℕ, _+_, _<_}
+use native.Mathlib.Omega.{arith}
+use borrow.Author.Tests.{eq-eqb, ne-eqb}
+use Rattle.amount.specs.Numbers.{limit}
+use Rattle.amount.proofs.Halves.{val-halves}
+use Rattle.book.specs.Book.{credits, wholeAmount, nameBytes, placeRecord, placeAt, transferAt, total, isSome, nameOk, setBalance, setCredits}
+use Rattle.book.specs.Steps.{Step, viewOf, effect, issues, takes}
+use Rattle.book.specs.Plain.{Holding, Plain, worth, plainTotal, plainAnswer, plainPut, holds, plainCredits, plainEffect}
+use Rattle.book.specs.Claim.{route, noted, shown, cellAt}
+use Rattle.book.specs.declared.Place.{Place}
+use Rattle.book.specs.declared.Book.{Book}
+use Rattle.book.specs.declared.error.BookOutcome.the-variants.{Accepted}
+use Rattle.book.proofs.Tables.{Altered, altered-map, altered-all, sum-altered}
+use Rattle.book.proofs.Views.{Good, good-place, total-place, PlaceSet, credits-set, place-raw, coming, coming-place}
+
+abbrev pub forth : ℕ → Bool
+forth t = false
+
+abbrev pub holding : List ℕ → ℕ → Option Holding
+holding s n = some (record { subject = s; balance = n })
+
+-- a place with c credits more
+abbrev pub credited : ℕ → Option Holding → Option Holding
+credited c none = none
+credited c (some h) = holding (h .subject) (h .balance + c)
+
+-- the plain book has at each place what the book has there, and what is coming to it
+pub record Inv (d : ℕ → Bool) (b : Book) (l : Plain) : Type 0 where
+  pub good : Good b
+  pub fits : total b < limit
+  pub sums : plainTotal l ≡ total b
+  pub matches : (p : ℕ) → p < 16 → l p ≡ credited (coming d b p) (cellAt b p)
+
+-- what an accepted step keeps
+pub record Kept (d : ℕ → Bool) (b : Book) (l : Plain) (s : Step) : Type 0 where
+  pub inv : Inv d (effect b s) (plainEffect l s)
+  pub plain : plainAnswer (nameBytes (b .unit)) l s ≡ Accepted
+  pub unit : effect b s .unit ≡ b .unit
+  pub moved : total (effect b s) + takes s ≡ total b + issues s
+  pub routes : (q : ℕ) → route (transferAt (effect b s) q) ≡ noted s (λ t. route (transferAt b t)) q
+
+-- ---- cells and views
+
+pub view-there : (u : List ℕ) (o : Option Place) → viewOf u o .there ≡ isSome o
+view-there u none = refl
+view-there u (some x) = refl
+
+pub is-none : {A : Type 0} (o : Option A) → isSome o ≡ false → o ≡ none
+is-none none h = refl
+is-none (some x) h = absurd (true≢false h)
+
+-- an open place, in the book and in the plain book
+module _ {d : ℕ → Bool} {b : Book} {l : Plain} (v : Inv d b l) (p : ℕ) (low : p < 16) (here : isSome (placeAt b p) ≡ true) where
+  pub place-is : placeAt b p ≡ some (placeRecord b p)
+  place-is = place-raw b p here .1
+
+  pub cell-is : cellAt b p ≡ holding (nameBytes (placeRecord b p .subject)) (credits (placeRecord b p .balance))
+  cell-is = ap shown place-is
+
+  pub plain-is : l p ≡ holding (nameBytes (placeRecord b p .subject)) (credits (placeRecord b p .balance) + coming d b p)
+  plain-is = v .matches p low ∙ ap (credited (coming d b p)) cell-is
+
+  pub name-is : nameOk (placeRecord b p .subject) ≡ true
+  name-is = rw place-is at (v .good .places p low)
+
+  pub whole-is : placeRecord b p .balance .scale ≡ 0
+  whole-is = v .good .shape .whole-places p low
+
+-- ---- the plain book
+
+pub plain-put : (l : Plain) (p : ℕ) (x : Option Holding) → Altered l (plainPut l p x) p x
+unfolding plainPut
+plain-put l p x = record { there = rw (eq-eqb p p refl); elsewhere = λ q d. rw (ne-eqb q p d) }
+
+pub plain-credits : (l : Plain) (p n m : ℕ) (s : List ℕ) → l p ≡ holding s n → Altered l (plainCredits l p m) p (holding s m)
+unfolding plainCredits
+plain-credits l p n m s e = rw (← (ap (λ (o : Option Holding). holds o m) e)) (plain-put l p (holds (l p) m))
+
+pub plain-total : {l m : Plain} {p : ℕ} {x : Option Holding} → Altered l m p x → p < 16 → plainTotal m + worth (l p) ≡ plainTotal l + worth x
+unfolding plainTotal
+plain-total a h = sum-altered (altered-map worth a) 16 h
+
+-- ---- both at once
+
+-- a place set in both books
+pub matches-place : (d : ℕ → Bool) {b c : Book} {p : ℕ} {x : Option Place} {l m : Plain} {y : Option Holding} → PlaceSet b c p x → Altered l m p y
+    → ((q : ℕ) → q < 16 → l q ≡ credited (coming d b q) (cellAt b q)) → y ≡ credited (coming d b p) (shown x)
+    → (q : ℕ) → q < 16 → m q ≡ credited (coming d c q) (cellAt c q)
+matches-place d {b} {c} {p} {x} {l} {m} {y} e a old h q k =
+    rw (coming-place e d q)
+    (altered-all (λ i o. m i ≡ credited (coming d b i) (shown o)) (e .places) (a .there ∙ h) q (λ z. a .elsewhere q z ∙ old q k))
+
+-- the credits of an open place set in both books, each as the other: what act does, and begin at its source
+pub record SetBoth (d : ℕ → Bool) (b : Book) (l : Plain) (p m k : ℕ) : Type 0 where
+  pub inv : Inv d (setCredits b p m) (plainCredits l p k)
+  pub book : total (setCredits b p m) + credits (placeRecord b p .balance) ≡ total b + m
+
+pub set-both : {d : ℕ → Bool} {b : Book} {l : Plain} → Inv d b l → (p : ℕ) → p < 16 → isSome (placeAt b p) ≡ true → (m k : ℕ)
+    → k ≡ m + coming d b p → total b + m < limit + credits (placeRecord b p .balance) → SetBoth d b l p m k
+set-both {d} {b} {l} v p low here m k up room =
+    record {
+      inv =
+          record {
+            good = good-place e (name-is v p low here) (v .good);
+            fits = omega (arith, after-total);
+            sums = omega (arith, plain-total a low, up, ap worth there, after-total, v .sums);
+            matches = matches-place d e a (v .matches) (ap (holding s) (up ∙ ap (λ (n : ℕ). n + coming d b p) (sym (val-halves m))));
+          };
+      book = after-total;
+    }
+  where
+    s : List ℕ
+    s = nameBytes (placeRecord b p .subject)
+
+    there : l p ≡ holding s (credits (placeRecord b p .balance) + coming d b p)
+    there = plain-is v p low here
+
+    e : PlaceSet b (setCredits b p m) p (some (setBalance (placeRecord b p) (wholeAmount m)))
+    e = credits-set b p m (v .good .shape) low here
+
+    a : Altered l (plainCredits l p k) p (holding s k)
+    a = plain-credits l p (credits (placeRecord b p .balance) + coming d b p) k s there
+
+    after-total : total (setCredits b p m) + credits (placeRecord b p .balance) ≡ total b + m
+    after-total = rw (place-is v p low here, val-halves m) at (total-place e low)

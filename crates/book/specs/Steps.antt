@@ -1,0 +1,207 @@
+-- Document 01, section "Book": the steps, which carry their sheets as bytes. The tests in their order, and what an accepted step does.
+use mathlib.Core.Bool.{Bool, true, false, not, cond, _&&_, _||_}
+use mathlib.Core.Option.{Option, some, none}
+use mathlib.Core.List.{List, [], _∷_}
+use Prim.Native.Nat.{ℕ, _+_, _-_}
+use lib.Dec.{eqb, leb, ltb}
+use lib.ListN.{length}
+use Rattle.amount.specs.Numbers.{limit}
+use Rattle.sheet.specs.Sheet.{verdictOf}
+use Rattle.sheet.specs.Fields.{Field, field, Sight, subject, unit, balance, amount, to-subject}
+use Rattle.sheet.specs.declared.Shape.the-variants.{Input}
+use Rattle.profiles.specs.Readers.{amountIn, bytesOf, readAmount}
+use Rattle.profiles.specs.Tests.{among}
+use Rattle.profiles.specs.Balance.{balanceRules}
+use Rattle.profiles.specs.Check.{inputSound}
+use Rattle.profiles.specs.declared.error.Outcome.{Outcome}
+use Rattle.profiles.specs.declared.error.Outcome.the-variants as Check
+use Rattle.profiles.specs.declared.error.ProfileError.the-variants.{UnknownOperation, Born, Unborn, Empty}
+use Rattle.places.specs.Places.{placeView, closedView, putField}
+use Rattle.book.specs.Book.{credits, wholeAmount, nameBytes, nameOf, blankPlace, blankBook, blankTransfer, placeRecord, transferRecord, placeAt, transferAt, total, isSome, wellFormed, setSubject, setBalance, setUnit, openPlace, setCredits, setTransfer}
+use Rattle.book.specs.declared.Place.{Place}
+use Rattle.book.specs.declared.Book.{Book}
+use Rattle.book.specs.declared.error.BookError.{BookError}
+use Rattle.book.specs.declared.error.BookError.the-variants.{Profile, UnderWay, OffTheBook, Idle, Itself, TooMuch, OtherUnit, LongName, BadBook}
+use Rattle.book.specs.declared.error.BookOutcome.{BookOutcome}
+use Rattle.book.specs.declared.error.BookOutcome.the-variants.{Accepted, Refused}
+
+pub data Step : Type 0 where
+  Open : (place : ℕ) (sheet : List ℕ) → Step
+  Act : (place operation : ℕ) (sheet : List ℕ) → Step
+  Begin : (from to transfer : ℕ) (sheet : List ℕ) → Step
+  Finish : (transfer : ℕ) → Step
+
+-- ---- what a sheet says
+
+-- the amount of that name, as the profiles read it; 0 where there is none
+unfoldable pub creditsIn : ℕ → List ℕ → ℕ
+creditsIn name i = credits (readAmount (amountIn name (field i name)))
+
+unfoldable pub bytesIn : ℕ → List ℕ → List ℕ
+bytesIn name i = bytesOf (field i name)
+
+-- the operations of act that add; the rest of them subtract
+unfoldable pub adds : ℕ → Bool
+adds o = among o (12 ∷ 13 ∷ 17 ∷ [])
+
+-- all of them
+unfoldable pub acts : ℕ → Bool
+acts o = among o (12 ∷ 13 ∷ 14 ∷ 16 ∷ 17 ∷ 18 ∷ 19 ∷ [])
+
+-- what a place holds after an act of v
+abbrev pub changed : ℕ → ℕ → ℕ → ℕ
+changed o held v = cond (adds o) (held + v) (held - v)
+
+-- ---- tests
+
+abbrev pub refusedIf : Bool → BookError → BookOutcome
+refusedIf t e = cond t (Refused e) Accepted
+
+-- what a profile says
+abbrev pub said : Outcome → BookOutcome
+said Check.Accepted = Accepted
+said (Check.Refused e) = Refused (Profile e)
+
+-- the first test that is not passed
+abbrev pub firstRefusal : List BookOutcome → BookOutcome
+firstRefusal [] = Accepted
+firstRefusal (Accepted ∷ ts) = firstRefusal ts
+firstRefusal (Refused e ∷ ts) = Refused e
+
+abbrev pub sameBytes : List ℕ → List ℕ → Bool
+sameBytes [] [] = true
+sameBytes [] (y ∷ ys) = false
+sameBytes (x ∷ xs) [] = false
+sameBytes (x ∷ xs) (y ∷ ys) = eqb x y && sameBytes xs ys
+
+-- what the tests go by, of a book or of the plain book: the unit, the places as balance states, which transfer numbers are in
+-- use, and the total
+pub record Seen : Type 0 where
+  pub unit : List ℕ
+  pub place : ℕ → Sight
+  pub busy : ℕ → Bool
+  pub total : ℕ
+
+-- 2
+abbrev pub sheetSound : List ℕ → BookOutcome
+sheetSound i = said (inputSound (verdictOf Input i))
+
+-- the balance profile's check of an operation, at place p
+abbrev pub checkAt : Seen → ℕ → (ℕ → Field) → ℕ → BookOutcome
+checkAt s p inp o = said (balanceRules amountIn (s .place p) inp o)
+
+-- begin's input: the destination's subject is its to_subject, whether or not the sheet has one
+abbrev pub sentTo : Seen → ℕ → List ℕ → ℕ → Field
+sentTo s g i = putField (field i) to-subject (s .place g .at subject)
+
+-- open: 22, 5, 2, the balance create check, 26, 27 (subject), 25
+unfoldable pub testsOpen : Seen → ℕ → List ℕ → List BookOutcome
+testsOpen s p i =
+    refusedIf (leb 16 p) OffTheBook
+    ∷ refusedIf (s .place p .there) (Profile Born)
+    ∷ sheetSound i
+    ∷ checkAt s p (field i) 11
+    ∷ refusedIf (not (sameBytes (s .unit) (bytesIn unit i))) OtherUnit
+    ∷ refusedIf (ltb 32 (length (bytesIn subject i))) (LongName subject)
+    ∷ refusedIf (leb limit (s .total + creditsIn balance i)) TooMuch
+    ∷ []
+
+-- act: 22, 6, 2, 4 unless 12, 13, 14, 16, 17, 18, 19; check; 25, which only what adds can meet
+unfoldable pub testsAct : Seen → ℕ → ℕ → List ℕ → List BookOutcome
+testsAct s p o i =
+    refusedIf (leb 16 p) OffTheBook
+    ∷ refusedIf (not (s .place p .there)) (Profile Unborn)
+    ∷ sheetSound i
+    ∷ refusedIf (not (acts o)) (Profile UnknownOperation)
+    ∷ checkAt s p (field i) o
+    ∷ refusedIf (adds o && leb limit (s .total + creditsIn amount i)) TooMuch
+    ∷ []
+
+-- begin: 22, 24, 21, 6 (either place), 2, balance.transfer's check
+unfoldable pub testsBegin : Seen → ℕ → ℕ → ℕ → List ℕ → List BookOutcome
+testsBegin s f g t i =
+    refusedIf (leb 16 f || leb 16 g || leb 8 t) OffTheBook
+    ∷ refusedIf (eqb f g) Itself
+    ∷ refusedIf (s .busy t) UnderWay
+    ∷ refusedIf (not (s .place f .there && s .place g .there)) (Profile Unborn)
+    ∷ sheetSound i
+    ∷ checkAt s f (sentTo s g i) 15
+    ∷ []
+
+-- finish: 22, 23
+unfoldable pub testsFinish : Seen → ℕ → List BookOutcome
+testsFinish s t = refusedIf (leb 8 t) OffTheBook ∷ refusedIf (not (s .busy t)) Idle ∷ []
+
+-- the tests of a step
+abbrev pub testsOf : Seen → Step → List BookOutcome
+testsOf s (Open p i) = testsOpen s p i
+testsOf s (Act p o i) = testsAct s p o i
+testsOf s (Begin f g t i) = testsBegin s f g t i
+testsOf s (Finish t) = testsFinish s t
+
+-- ---- the book
+
+-- a place as a balance state: its subject, the book's unit, its balance
+abbrev pub viewOf : List ℕ → Option Place → Sight
+viewOf u none = closedView
+viewOf u (some x) = placeView (nameBytes (x .subject)) u (x .balance)
+
+unfoldable pub seen : Book → Seen
+seen b =
+    record {
+      unit = nameBytes (b .unit);
+      place = λ p. viewOf (nameBytes (b .unit)) (placeAt b p);
+      busy = λ t. isSome (transferAt b t);
+      total = total b;
+    }
+
+-- THE ANSWER: 28 first
+unfoldable pub answer : Book → Step → BookOutcome
+answer b s = firstRefusal (refusedIf (not (wellFormed b)) BadBook ∷ testsOf (seen b) s)
+
+-- what place p holds
+abbrev pub heldAt : Book → ℕ → ℕ
+heldAt b p = credits (placeRecord b p .balance)
+
+-- THE EFFECT of an accepted step
+abbrev pub effect : Book → Step → Book
+effect b (Open p i) =
+    openPlace b p (setBalance (setSubject blankPlace (nameOf (bytesIn subject i))) (wholeAmount (creditsIn balance i)))
+effect b (Act p o i) = setCredits b p (changed o (heldAt b p) (creditsIn amount i))
+effect b (Begin f g t i) =
+    setTransfer (setCredits b f (heldAt b f - creditsIn amount i)) t 1
+    (record { from = f; to = g; amount = wholeAmount (creditsIn amount i) })
+effect b (Finish t) =
+    let r = transferRecord b t in
+    setTransfer (setCredits b (r .to) (heldAt b (r .to) + credits (r .amount))) t 0 blankTransfer
+
+-- a refused step changes nothing
+abbrev pub after : {A : Type 0} → BookOutcome → A → A → A
+after Accepted new old = new
+after (Refused e) new old = old
+
+unfoldable pub next : Book → Step → Book
+next b s = after (answer b s) (effect b s) b
+
+-- ---- the start: 9 and 27 of the unit; a refused one gives a book of zeros
+
+unfoldable pub startAnswer : List ℕ → BookOutcome
+startAnswer u =
+    firstRefusal (refusedIf (eqb (length u) 0) (Profile (Empty unit)) ∷ refusedIf (ltb 32 (length u)) (LongName unit) ∷ [])
+
+unfoldable pub startBook : List ℕ → Book
+startBook u = after (startAnswer u) (setUnit blankBook (nameOf u)) blankBook
+
+-- ---- what an accepted step issues and takes, by its sheet
+
+abbrev pub issues : Step → ℕ
+issues (Open p i) = creditsIn balance i
+issues (Act p o i) = cond (adds o) (creditsIn amount i) 0
+issues (Begin f g t i) = 0
+issues (Finish t) = 0
+
+abbrev pub takes : Step → ℕ
+takes (Open p i) = 0
+takes (Act p o i) = cond (adds o) 0 (creditsIn amount i)
+takes (Begin f g t i) = 0
+takes (Finish t) = 0
