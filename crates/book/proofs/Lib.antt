@@ -14,3 +14,4 @@ pub mod Whole
 pub mod Orders
 pub mod Worked
 pub mod Effects
+pub mod Applies

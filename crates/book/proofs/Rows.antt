@@ -47,11 +47,11 @@ create-subject i h = text-there subject (field i subject) (then-both (textIn sub
 -- ---- the operations of act, and transfer
 
 -- what holds of each number of a list holds of every number that is among them
-abbrev All : (ℕ → Type 0) → List ℕ → Type 0
+abbrev pub All : (ℕ → Type 0) → List ℕ → Type 0
 All P [] = Unit {0}
 All P (n ∷ ns) = P n × All P ns
 
-among-all : (P : ℕ → Type 0) (l : List ℕ) → All P l → (o : ℕ) → among o l ≡ true → P o
+pub among-all : (P : ℕ → Type 0) (l : List ℕ) → All P l → (o : ℕ) → among o l ≡ true → P o
 among-all P [] a o h = absurd (false≢true h)
 among-all P (n ∷ ns) a o h = go (eqb o n) refl (λ k. among-all P ns (a .1) o k)
   where
