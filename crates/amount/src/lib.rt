@@ -10,7 +10,7 @@ mod text;
 mod uint128;
 
 pub use text::Text;
-use uint128::Checked;
+pub use uint128::Checked;
 pub use uint128::Ordering;
 pub use uint128::Uint128;
 

@@ -1,7 +1,5 @@
 -- The laws of the definitions, and the theorems that docs/PROOFS.md names.
 pub mod Tables
-pub mod BitCode
-pub mod Sums
 pub mod Names
 pub mod Rows
 pub mod Facts
@@ -16,7 +14,4 @@ pub mod Whole
 pub mod Orders
 pub mod Worked
 pub mod Effects
-pub mod Carried
-pub mod Texts
-pub mod Same
 pub mod Applies

@@ -2,7 +2,6 @@
 pub mod Sets
 pub mod Refusals
 pub mod Book
-pub mod Totals
 pub mod Steps
 pub mod Plain
 pub mod Claim

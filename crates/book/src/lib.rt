@@ -2,23 +2,7 @@
 // Integers and arrays only: every pattern of bytes is a book, and test 28 says which are sound.
 use amount::Amount;
 
-mod act;
 pub mod error;
-mod finish;
-mod open;
-mod sets;
-mod soundness;
-mod start;
-mod totals;
-
-pub use act::act_book;
-pub use act::act_outcome;
-pub use finish::finish_book;
-pub use finish::finish_outcome;
-pub use open::open_book;
-pub use open::open_outcome;
-pub use start::start_book;
-pub use start::start_outcome;
 
 // A text of at most 32 bytes: the first `len` of `bytes`.
 #[repr(C)]

@@ -1,0 +1,85 @@
+-- What the code of a step needs to know of an accepted one, on any book value, and what it answers then.
+use mathlib.Core.Path.{_≡_, refl}
+use mathlib.Core.Bool.{true, false}
+use mathlib.Core.List.{List}
+use Prim.Native.Nat.{ℕ, _+_, _^_, _≤_, _<_}
+use native.Mathlib.Omega.{arith}
+use lib.Dec.{leb, ltb}
+use lib.ListN.{length}
+use borrow.Author.Tests.{leb-true}
+use Rattle.amount.specs.Numbers.{limit}
+use Rattle.sheet.specs.Fields.{field, subject, balance}
+use Rattle.profiles.specs.Readers.{amountIn}
+use Rattle.profiles.specs.Tests.{first, creates}
+use Rattle.profiles.specs.Balance.{balanceRules}
+use Rattle.places.specs.Places.{closedView}
+use Rattle.book.specs.Book.{transferRecord, placeAt, isSome, credits, total, nameOk, wellFormed}
+use Rattle.book.specs.Steps.{Step, Open, Act, Finish, bytesIn, seen, answer, after, effect, next, heldAt}
+use Rattle.book.specs.declared.Book.{Book}
+use Rattle.book.specs.declared.error.BookError.{BookError}
+use Rattle.book.specs.declared.error.BookOutcome.the-variants.{Accepted, Refused}
+use Rattle.book.proofs.Facts.{Finishes, finishes, acts-so, Opens, opens, accepted-tests}
+use Rattle.book.proofs.Formed.{Formed, formed, and-r}
+use Rattle.book.proofs.Views.{transfer-raw, home-open, open-lt}
+use Rattle.book.proofs.Effects.{held-part, load-part}
+
+-- ---- the book after a step
+
+pub next-kept : (b : Book) (s : Step) (e : BookError) → answer b s ≡ Refused e → b ≡ next b s
+unfolding next
+next-kept b s e h = rw h
+
+pub next-done : (b c : Book) (s : Step) → answer b s ≡ Accepted → c ≡ effect b s → c ≡ next b s
+unfolding next
+next-done b c s h e = rw h e
+
+-- ---- finish
+
+module _ (b : Book) (t : ℕ) (h : answer b (Finish t) ≡ Accepted) where
+  facts : Finishes (seen b) t
+  facts = finishes (seen b) t (accepted-tests b (Finish t) h .1)
+
+  sound : Formed b
+  sound = formed b (accepted-tests b (Finish t) h .0)
+
+  pub finish-low : t < 8
+  finish-low = facts .low
+
+  module _ (k : b .opened < 2 ^ 16) where
+    to-here : isSome (placeAt b (transferRecord b t .to)) ≡ true
+    unfolding seen
+    to-here = home-open b (transferRecord b t) false (rw (transfer-raw b t (facts .moving) .1) at (sound .transfers t (facts .low)))
+
+    pub finish-to : transferRecord b t .to < 16
+    finish-to = open-lt b k (transferRecord b t .to) to-here
+
+    pub finish-fits : heldAt b (transferRecord b t .to) + credits (transferRecord b t .amount) < limit
+    unfolding seen total
+    finish-fits =
+        omega (arith, sound .fits, held-part b sound (transferRecord b t .to) finish-to to-here, load-part b sound t (facts .low) (facts .moving))
+
+-- ---- act
+
+pub act-low : (b : Book) (p o : ℕ) (i : List ℕ) → answer b (Act p o i) ≡ Accepted → p < 16
+act-low b p o i h = acts-so (seen b) p o i (accepted-tests b (Act p o i) h .1) .low
+
+-- ---- open
+
+module _ (b : Book) (p : ℕ) (i : List ℕ) (h : answer b (Open p i) ≡ Accepted) where
+  open-facts : Opens (seen b) p i
+  open-facts = opens (seen b) p i (accepted-tests b (Open p i) h .1)
+
+  pub open-low : p < 16
+  open-low = open-facts .low
+
+  pub open-short : length (bytesIn subject i) ≤ 32
+  open-short = open-facts .short
+
+pub unit-short : (b : Book) → wellFormed b ≡ true → b .unit .len ≤ 32
+unfolding nameOk
+unit-short b h = leb-true (b .unit .len) 32 (and-r (ltb 0 (b .unit .len)) (leb (b .unit .len) 32) (formed b h .unit))
+
+-- create's list is 11's
+pub create-is : (i : List ℕ) → first amountIn closedView (field i) (creates balance) ≡ balanceRules amountIn closedView (field i) 11
+unfolding balanceRules
+create-is i = refl

@@ -1,0 +1,6 @@
+-- The laws that the code of the steps cites.
+pub mod BitCode
+pub mod Sums
+pub mod Texts
+pub mod Same
+pub mod Carried

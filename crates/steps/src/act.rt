@@ -1,0 +1,115 @@
+// An act: an operation of the balance profile at one place.
+ghost use mathlib.Core.Path.{_≡_};
+ghost use Rattle.book.specs.Steps.{Act, answer, next, effect, adds, acts};
+ghost use Rattle.book.specs.declared.error.BookOutcome.the-variants.{Accepted};
+use crate::alter;
+use crate::reads;
+use crate::sets;
+use crate::soundness;
+use crate::totals;
+use book::Book;
+use book::error::BookError;
+use book::error::BookOutcome;
+use profiles::error::Outcome;
+use profiles::error::ProfileError;
+use profiles::registry;
+
+// The operations that add.
+fn is_adding(operation: u8) -> bool
+    ensures { λ r. ⌜ r ≡ adds operation ⌝ }
+{
+    if operation == 12 {
+        return true;
+    }
+    if operation == 13 {
+        return true;
+    }
+    operation == 17
+}
+
+// The operations of act.
+fn is_act(operation: u8) -> bool
+    ensures { λ r. ⌜ r ≡ acts operation ⌝ }
+{
+    if operation == 12 {
+        return true;
+    }
+    if operation == 13 {
+        return true;
+    }
+    if operation == 14 {
+        return true;
+    }
+    if operation == 16 {
+        return true;
+    }
+    if operation == 17 {
+        return true;
+    }
+    if operation == 18 {
+        return true;
+    }
+    operation == 19
+}
+
+// 28, 22, 6, 2, 4, the profile's check, 25.
+pub fn act_outcome(book: Book, place: u8, operation: u8, input: &[u8]) -> BookOutcome
+    ensures { λ r. ⌜ r ≡ answer book (Act place operation (now (input .entry))) ⌝ }
+{
+    if !soundness::well_formed(book) {
+        return BookOutcome::Refused(BookError::BadBook);
+    }
+    if 15 < place {
+        return BookOutcome::Refused(BookError::OffTheBook);
+    }
+    let opened = book.opened;
+    if !sets::has16(opened, place) {
+        return BookOutcome::Refused(BookError::Profile(ProfileError::Unborn));
+    }
+    if let Outcome::Refused(e) = registry::require_sound_input(input) {
+        return BookOutcome::Refused(BookError::Profile(e));
+    }
+    if !is_act(operation) {
+        return BookOutcome::Refused(BookError::Profile(ProfileError::UnknownOperation));
+    }
+    let i = place as usize;
+    let x = book.places[i];
+    let held = x.balance;
+    if let Outcome::Refused(e) = places::check_at(operation, held, input) {
+        return BookOutcome::Refused(BookError::Profile(e));
+    }
+    if !is_adding(operation) {
+        return BookOutcome::Accepted;
+    }
+    let a = reads::asked(input, sheet::AMOUNT);
+    let n = a.mantissa;
+    totals::room(book, n)
+}
+
+// The book after it; a refused one leaves it as it was.
+pub fn act_book(book: Book, place: u8, operation: u8, input: &[u8]) -> Book
+    ensures { λ r. ⌜ r ≡ next book (Act place operation (now (input .entry))) ⌝ }
+{
+    match act_outcome(book, place, operation, input) {
+        BookOutcome::Accepted => acted(book, place, operation, input),
+        BookOutcome::Refused(_) => book,
+    }
+}
+
+fn acted(book: Book, place: u8, operation: u8, input: &[u8]) -> Book
+    requires { ⌜ answer book (Act place operation (now input)) ≡ Accepted ⌝ }
+    ensures { λ r. ⌜ r ≡ effect book (Act place operation (now (input .entry))) ⌝ }
+{
+    let i = place as usize;
+    let x = book.places[i];
+    let held = x.balance;
+    let a = reads::asked(input, sheet::AMOUNT);
+    if is_adding(operation) {
+        let more = held.checked_add(a).given();
+        let sum = more.amount;
+        return alter::with_credits(book, place, sum.mantissa);
+    }
+    let less = held.checked_sub(a).given();
+    let left = less.amount;
+    alter::with_credits(book, place, left.mantissa)
+}

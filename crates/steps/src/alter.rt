@@ -1,0 +1,55 @@
+// How a step alters a book: one function for each record that it sets.
+ghost use mathlib.Core.Path.{_≡_};
+ghost use Prim.Native.Nat.{_<_};
+ghost use Rattle.amount.specs.Numbers.{val};
+ghost use Rattle.book.specs.Book.{openPlace, setCredits, setTransfer, blankTransfer};
+use crate::sets;
+use amount::Amount;
+use amount::Uint128;
+use book::Book;
+use book::Place;
+use book::Transfer;
+
+// Place p is open, and its record is x.
+pub fn with_place(mut book: Book, p: u8, x: Place) -> Book
+    requires { ⌜ p < 16 ⌝ }
+    ensures { λ r. ⌜ r ≡ openPlace book p x ⌝ }
+{
+    let i = p as usize;
+    book.places[i] = x;
+    let opened = sets::with16(book.opened, p);
+    book.opened = opened;
+    book
+}
+
+// Place p with n credits.
+pub fn with_credits(mut book: Book, p: u8, n: Uint128) -> Book
+    requires { ⌜ p < 16 ⌝ }
+    ensures { λ r. ⌜ r ≡ setCredits book p (val n) ⌝ }
+{
+    let i = p as usize;
+    let place = book.places[i];
+    let subject = place.subject;
+    let balance = Amount {
+        mantissa: n,
+        scale: 0,
+    };
+    book.places[i] = Place { subject, balance };
+    book
+}
+
+// Transfer t is no longer under way, and its record is zeros.
+pub fn freed(mut book: Book, t: u8) -> Book
+    requires { ⌜ t < 8 ⌝ }
+    ensures { λ r. ⌜ r ≡ setTransfer book t 0 blankTransfer ⌝ }
+{
+    let i = t as usize;
+    book.transfers[i] = Transfer {
+        from: 0,
+        to: 0,
+        amount: Amount::ZERO,
+    };
+    let left = sets::without8(book.pending, t);
+    book.pending = left;
+    book
+}

@@ -1,0 +1,20 @@
+// The steps of the book by value, each as two functions: what it answers, and the book after it. The contracts cite the
+// definitions that the overlap claim of `book` is about.
+mod act;
+mod alter;
+mod finish;
+mod open;
+mod reads;
+mod sets;
+mod soundness;
+mod start;
+mod totals;
+
+pub use act::act_book;
+pub use act::act_outcome;
+pub use finish::finish_book;
+pub use finish::finish_outcome;
+pub use open::open_book;
+pub use open::open_outcome;
+pub use start::start_book;
+pub use start::start_outcome;

@@ -1,0 +1,70 @@
+// An opening of a place: a subject with its first balance.
+ghost use mathlib.Core.Path.{_≡_};
+ghost use Rattle.book.specs.Steps.{Open, answer, next, effect};
+ghost use Rattle.book.specs.declared.error.BookOutcome.the-variants.{Accepted};
+use crate::alter;
+use crate::reads;
+use crate::sets;
+use crate::soundness;
+use crate::start;
+use crate::totals;
+use book::Book;
+use book::Place;
+use book::error::BookError;
+use book::error::BookOutcome;
+use profiles::error::Outcome;
+use profiles::error::ProfileError;
+use profiles::registry;
+
+// 28, 22, 5, 2, create's check, 26, 27, 25.
+pub fn open_outcome(book: Book, place: u8, input: &[u8]) -> BookOutcome
+    ensures { λ r. ⌜ r ≡ answer book (Open place (now (input .entry))) ⌝ }
+{
+    if !soundness::well_formed(book) {
+        return BookOutcome::Refused(BookError::BadBook);
+    }
+    if 15 < place {
+        return BookOutcome::Refused(BookError::OffTheBook);
+    }
+    let opened = book.opened;
+    if sets::has16(opened, place) {
+        return BookOutcome::Refused(BookError::Profile(ProfileError::Born));
+    }
+    if let Outcome::Refused(e) = registry::require_sound_input(input) {
+        return BookOutcome::Refused(BookError::Profile(e));
+    }
+    if let Outcome::Refused(e) = places::check_create_at(input) {
+        return BookOutcome::Refused(BookError::Profile(e));
+    }
+    let unit = book.unit;
+    let bytes = unit.bytes;
+    if !reads::same_text(bytes, unit.len, registry::text(input, sheet::UNIT)) {
+        return BookOutcome::Refused(BookError::OtherUnit);
+    }
+    let subject = registry::text(input, sheet::SUBJECT);
+    if 32 < subject.len() {
+        return BookOutcome::Refused(BookError::LongName(sheet::SUBJECT));
+    }
+    let a = reads::asked(input, sheet::BALANCE);
+    let n = a.mantissa;
+    totals::room(book, n)
+}
+
+// The book after it; a refused one leaves it as it was.
+pub fn open_book(book: Book, place: u8, input: &[u8]) -> Book
+    ensures { λ r. ⌜ r ≡ next book (Open place (now (input .entry))) ⌝ }
+{
+    match open_outcome(book, place, input) {
+        BookOutcome::Accepted => opened_at(book, place, input),
+        BookOutcome::Refused(_) => book,
+    }
+}
+
+fn opened_at(book: Book, place: u8, input: &[u8]) -> Book
+    requires { ⌜ answer book (Open place (now input)) ≡ Accepted ⌝ }
+    ensures { λ r. ⌜ r ≡ effect book (Open place (now (input .entry))) ⌝ }
+{
+    let subject = start::name_of(registry::text(input, sheet::SUBJECT));
+    let balance = reads::asked(input, sheet::BALANCE);
+    alter::with_place(book, place, Place { subject, balance })
+}
