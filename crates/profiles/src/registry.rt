@@ -5,10 +5,11 @@ ghost use mathlib.Core.Bool.{not};
 ghost use mathlib.Core.List.{[], _∷_};
 ghost use lib.Dec.{eqb};
 ghost use lib.ListN.{length};
-ghost use Rattle.sheet.specs.Fields.{field};
+ghost use Rattle.sheet.specs.Fields.{field, fieldOf};
 ghost use Rattle.sheet.specs.Sheet.{stateOf, verdictOf};
+ghost use Rattle.sheet.specs.declared.Found.the-variants.{At};
 ghost use Rattle.sheet.specs.declared.Shape.the-variants.{Input};
-ghost use Rattle.profiles.specs.Readers.{textIn, textOf, bytesOf, marked, givenOr, parsed, amountIn, amountOf};
+ghost use Rattle.profiles.specs.Readers.{textIn, textOf, bytesOf, marked, givenOr, readIn, faultIn, amountIn, amountOf};
 ghost use Rattle.profiles.specs.Tests.{stateThere, stateAbsent, aboveZero, unlessLess, heldBy, upTo, asking, firstOf, takes, creates, born, in-text, in-amount, _then_};
 ghost use Rattle.profiles.specs.Check.{stateSound, inputSound, profileOf, operationOf, called};
 use super::error::Outcome;
@@ -17,6 +18,7 @@ use super::error::Reading;
 use amount::Amount;
 use amount::AmountResult;
 use amount::Ordering;
+use sheet::Entry;
 use sheet::Found;
 
 // The profile that an operation is of; 0 for none.
@@ -182,17 +184,27 @@ pub fn given_or(o: AmountResult, e: ProfileError) -> Reading
     Reading::Given(a)
 }
 
-// The text of an amount: 11, then 10.
-pub fn parse_amount_str(text: &[u8], name: u8) -> Reading
-    ensures { λ r. ⌜ r ≡ parsed name (now (text .entry)) ⌝ }
+// The value of an entry as an amount: a text of digits.
+pub fn parse_amount_str(input: &[u8], e: Entry) -> AmountResult
+    ensures { λ r. ⌜ r ≡ readIn (fieldOf (now (input .entry)) (At e)) ⌝ }
 {
-    if is_float(text) {
-        return Reading::Failed(ProfileError::FloatForbidden(name));
+    if e.kind != sheet::KIND_TEXT {
+        return AmountResult::NotWhole;
     }
-    let AmountResult::Ok(a) = Amount::try_from_str(text) else {
-        return Reading::Failed(ProfileError::NotWhole(name));
-    };
-    Reading::Given(a)
+    Amount::try_from_str(sheet::entry_body(input, e))
+}
+
+// Why it is none: 11 for a text with a point or an exponent's mark, before 10.
+fn amount_fault(input: &[u8], e: Entry, name: u8) -> ProfileError
+    ensures { λ r. ⌜ r ≡ faultIn name (fieldOf (now (input .entry)) (At e)) ⌝ }
+{
+    if e.kind != sheet::KIND_TEXT {
+        return ProfileError::NotWhole(name);
+    }
+    if is_float(sheet::entry_body(input, e)) {
+        return ProfileError::FloatForbidden(name);
+    }
+    ProfileError::NotWhole(name)
 }
 
 // An amount that an input gives as text.
@@ -202,10 +214,10 @@ pub fn input_amount(input: &[u8], name: u8) -> Reading
     let Found::At(e) = sheet::find(input, name) else {
         return Reading::Failed(ProfileError::Missing(name));
     };
-    if e.kind != sheet::KIND_TEXT {
-        return Reading::Failed(ProfileError::NotWhole(name));
-    }
-    parse_amount_str(sheet::entry_body(input, e), name)
+    let AmountResult::Ok(a) = parse_amount_str(input, e) else {
+        return Reading::Failed(amount_fault(input, e, name));
+    };
+    Reading::Given(a)
 }
 
 // An amount that a state holds.
