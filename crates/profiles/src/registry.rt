@@ -10,7 +10,7 @@ ghost use Rattle.sheet.specs.Sheet.{stateOf, verdictOf};
 ghost use Rattle.sheet.specs.declared.Found.the-variants.{At};
 ghost use Rattle.sheet.specs.declared.Shape.the-variants.{Input};
 ghost use Rattle.profiles.specs.Readers.{textIn, textOf, bytesOf, marked, givenOr, readIn, faultIn, amountIn, amountOf};
-ghost use Rattle.profiles.specs.Tests.{stateThere, stateAbsent, aboveZero, unlessLess, heldBy, upTo, asking, firstOf, takes, creates, born, in-text, in-amount, _then_};
+ghost use Rattle.profiles.specs.Tests.{stateThere, stateAbsent, aboveZero, unlessLess, heldBy, upTo, asking, taking, firstOf, creates, born, in-amount, _then_};
 ghost use Rattle.profiles.specs.Check.{stateSound, inputSound, profileOf, operationOf, called};
 use super::error::Outcome;
 use super::error::ProfileError;
@@ -293,30 +293,30 @@ pub fn require_asked(input: &[u8], available: Amount, asked: u8) -> Outcome
     require_positive_available(requested, available)
 }
 
-// St held, in asked, 14, 15.
-pub fn require_held(state: &[u8], input: &[u8], held: u8, asked: u8) -> Outcome
-    ensures { λ r. ⌜ r ≡ firstOf (now (state .entry)) (now (input .entry)) (takes held asked) ⌝ }
+// The same, of what was read as held.
+fn require_held(input: &[u8], held: Reading, asked: u8) -> Outcome
+    ensures { λ r. ⌜ r ≡ taking held (amountIn asked (field (now (input .entry)) asked)) ⌝ }
 {
-    let available = match state_amount(state, held) {
+    let available = match held {
         Reading::Given(a) => a,
         Reading::Failed(e) => return Outcome::Refused(e),
     };
     require_asked(input, available, asked)
 }
 
-// What all that take from an amount test.
-pub fn check_taking(state: &[u8], input: &[u8], held: u8, asked: u8) -> Outcome
-    ensures { λ r. ⌜ r ≡ firstOf (now (state .entry)) (now (input .entry)) (born ∷ takes held asked) ⌝ }
+// What all that take from an amount test. A profile reads what is held.
+pub fn check_taking(state: &[u8], input: &[u8], held: Reading, asked: u8) -> Outcome
+    ensures { λ r. ⌜ r ≡ (stateThere (not (eqb (length (now (state .entry))) 0)) then taking held (amountIn asked (field (now (input .entry)) asked))) ⌝ }
 {
     if let Outcome::Refused(e) = require_current(state) {
         return Outcome::Refused(e);
     }
-    require_held(state, input, held, asked)
+    require_held(input, held, asked)
 }
 
 // The same with an input text directly after born.
-pub fn check_taking_with(state: &[u8], input: &[u8], name: u8, held: u8, asked: u8) -> Outcome
-    ensures { λ r. ⌜ r ≡ firstOf (now (state .entry)) (now (input .entry)) (born ∷ in-text name ∷ takes held asked) ⌝ }
+pub fn check_taking_with(state: &[u8], input: &[u8], name: u8, held: Reading, asked: u8) -> Outcome
+    ensures { λ r. ⌜ r ≡ (stateThere (not (eqb (length (now (state .entry))) 0)) then textIn name (field (now (input .entry)) name) then taking held (amountIn asked (field (now (input .entry)) asked))) ⌝ }
 {
     if let Outcome::Refused(e) = require_current(state) {
         return Outcome::Refused(e);
@@ -324,7 +324,7 @@ pub fn check_taking_with(state: &[u8], input: &[u8], name: u8, held: u8, asked: 
     if let Outcome::Refused(e) = input_str(input, name) {
         return Outcome::Refused(e);
     }
-    require_held(state, input, held, asked)
+    require_held(input, held, asked)
 }
 
 // Create of a stack or a balance: subject, unit, and the amount of that name.
