@@ -1,7 +1,7 @@
 -- Laws of the readers: a field that is not of the kind that is asked, and the marks of a fraction.
 use mathlib.Core.Path.{_≡_, refl, _∙_}
-use mathlib.Core.Bool.{Bool, true, false, cond, _||_}
-use mathlib.Core.List.{List, []}
+use mathlib.Core.Bool.{Bool, true, false, cond, _&&_, _||_, and-false, false≢true}
+use mathlib.Core.List.{List, [], _∷_}
 use mathlib.Core.Logic.{_≢_}
 use Prim.Native.Nat.{ℕ, _+_, _<_, _≤_}
 use native.Mathlib.Numerals.{add-one}
@@ -9,11 +9,15 @@ use native.Mathlib.Omega.{arith}
 use lib.Dec.{eqb}
 use lib.ListN.{length, getD, drop, drop-of-length-le}
 use lib.Seq.{drop-cons}
-use borrow.Author.Tests.{ne-eqb}
+use borrow.Author.Tests.{ne-eqb, eqb-true}
+use Rattle.amount.specs.Amounts.{readOf}
+use Rattle.amount.specs.Decimal.{isDigit, allDigits}
+use Rattle.amount.specs.declared.AmountResult.the-variants as Read
+use Rattle.amount.proofs.Reading.{read-not-digits}
 use Rattle.sheet.specs.Amounts.{amountAt}
-use Rattle.sheet.specs.Fields.{Field, text, whole, other, fieldOfKind}
-use Rattle.profiles.specs.Readers.{marked, isMark, textIn, textOf, bytesOf, amountBy, amountIn, amountOf}
-use Rattle.profiles.specs.declared.error.ProfileError.the-variants.{NotText, NotWhole, NoField}
+use Rattle.sheet.specs.Fields.{Field, absent, text, whole, other, fieldOfKind}
+use Rattle.profiles.specs.Readers.{marked, isMark, textIn, textOf, bytesOf, givenOr, parsed, readIn, faultIn, amountBy, amountIn, amountOf}
+use Rattle.profiles.specs.declared.error.ProfileError.the-variants.{NotText, NotWhole, FloatForbidden, NoField}
 use Rattle.profiles.specs.declared.error.Outcome.the-variants.{Refused}
 use Rattle.profiles.specs.declared.error.Reading.the-variants.{Given, Failed}
 
@@ -34,9 +38,9 @@ module _ (n kind : ℕ) (body : List ℕ) where
   unfolding textOf
   text-of-not = not-text (textOf n) (Refused (NoField n)) kind body refl refl
 
-  pub amount-in-not : kind ≢ 1 → Failed (NotWhole n) ≡ amountIn n (fieldOfKind kind body)
-  unfolding amountBy
-  amount-in-not = not-text (amountIn n) (Failed (NotWhole n)) kind body refl refl
+  pub fault-in-not : kind ≢ 1 → NotWhole n ≡ faultIn n (fieldOfKind kind body)
+  unfolding faultIn
+  fault-in-not = not-text (faultIn n) (NotWhole n) kind body refl refl
 
   pub amount-of-not : kind ≢ 3 → Failed (NoField n) ≡ amountOf n (fieldOfKind kind body)
   unfolding amountOf
@@ -53,6 +57,41 @@ module _ (n kind : ℕ) (body : List ℕ) where
 pub no-bytes : (kind : ℕ) (body : List ℕ) → kind ≢ 1 → [] ≡ bytesOf (fieldOfKind kind body)
 unfolding bytesOf
 no-bytes kind body = not-text bytesOf [] kind body refl refl
+
+pub read-in-not : (kind : ℕ) (body : List ℕ) → kind ≢ 1 → Read.NotWhole ≡ readIn (fieldOfKind kind body)
+unfolding readIn
+read-in-not kind body = not-text readIn Read.NotWhole kind body refl refl
+
+-- a mark of a fraction is no digit, so a text that has one is not readable
+mark-no-digit : (b : ℕ) → isMark b ≡ true → isDigit b ≡ false
+mark-no-digit b = go (eqb b 46) (eqb b 101) (eqb b 69) refl refl refl
+  where
+    go : (x y z : Bool) → eqb b 46 ≡ x → eqb b 101 ≡ y → eqb b 69 ≡ z → (x || y || z) ≡ true → isDigit b ≡ false
+    go true y z e f g h = rw (eqb-true b 46 e)
+    go false true z e f g h = rw (eqb-true b 101 f)
+    go false false true e f g h = rw (eqb-true b 69 g)
+    go false false false e f g h = absurd (false≢true h)
+
+marked-no-digits : (t : List ℕ) → marked t ≡ true → allDigits t ≡ false
+unfolding marked allDigits
+marked-no-digits [] h = absurd (false≢true h)
+marked-no-digits (b ∷ t) h = go (isMark b) refl (marked-no-digits t) h
+  where
+    go : (x : Bool) → isMark b ≡ x → (marked t ≡ true → allDigits t ≡ false) → (x || marked t) ≡ true → (isDigit b && allDigits t) ≡ false
+    go true e rest h = rw (mark-no-digit b e)
+    go false e rest h = rw (rest h) (and-false (isDigit b))
+
+-- what is not readable has its fault, and the faults come in document 01's order
+pub amount-in-is : (n : ℕ) (f : Field) → amountIn n f ≡ givenOr (faultIn n f) (readIn f)
+unfolding amountBy parsed readIn faultIn
+amount-in-is n absent = refl
+amount-in-is n (text t) = go (marked t) refl
+  where
+    go : (m : Bool) → marked t ≡ m → cond m (Failed (FloatForbidden n)) (givenOr (NotWhole n) (readOf t)) ≡ givenOr (cond m (FloatForbidden n) (NotWhole n)) (readOf t)
+    go true e = rw (← read-not-digits t (marked-no-digits t e))
+    go false e = refl
+amount-in-is n (whole a) = refl
+amount-in-is n other = refl
 
 -- no mark of a fraction among the first i bytes
 pub record Unmarked (s : List ℕ) (i : ℕ) : Type 0 where

@@ -67,6 +67,19 @@ amountBy parse n other = Failed (NotWhole n)
 abbrev pub amountIn : ℕ → Field → Reading
 amountIn = amountBy parsed
 
+-- the same in the code's order: the number that a field's text stands for, and only where there is none, why
+unfoldable pub readIn : Field → AmountResult
+readIn absent = Read.NotWhole
+readIn (text t) = readOf t
+readIn (whole a) = Read.NotWhole
+readIn other = Read.NotWhole
+
+unfoldable pub faultIn : ℕ → Field → ProfileError
+faultIn n absent = Missing n
+faultIn n (text t) = cond (marked t) (FloatForbidden n) (NotWhole n)
+faultIn n (whole a) = NotWhole n
+faultIn n other = NotWhole n
+
 -- a state's amount: 12 no field
 unfoldable pub amountOf : ℕ → Field → Reading
 amountOf n absent = Failed (NoField n)

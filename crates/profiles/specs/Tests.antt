@@ -116,6 +116,10 @@ firstOf s i = first amountIn (sightOf s) (field i)
 abbrev pub takes : ℕ → ℕ → List Test
 takes held asked = st-amount held ∷ in-amount asked ∷ positive asked ∷ available held asked ∷ []
 
+-- the same of two readings, of what is held and of what is asked
+abbrev pub taking : Reading → Reading → Outcome
+taking held asked = readable held then readable asked then onAmount asked aboveZero then onAmount held (λ h. onAmount asked (heldBy h)) then Accepted
+
 -- unborn, in subject, in unit, then in quantity or balance
 abbrev pub creates : ℕ → List Test
 creates name = unborn ∷ in-text subject ∷ in-text unit ∷ in-amount name ∷ []

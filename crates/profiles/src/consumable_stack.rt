@@ -5,7 +5,7 @@ ghost use mathlib.Core.List.{[], _∷_};
 ghost use lib.Dec.{eqb};
 ghost use lib.ListN.{length};
 ghost use Rattle.sheet.specs.Fields.{field, sightOf, quantity, to-subject};
-ghost use Rattle.profiles.specs.Readers.{amountIn};
+ghost use Rattle.profiles.specs.Readers.{amountIn, amountOf};
 ghost use Rattle.profiles.specs.Tests.{firstOf, stateThere, born, in-text, in-amount, positive, takes, creates};
 ghost use Rattle.profiles.specs.Stack.{stackRules};
 use super::error::Outcome;
@@ -30,7 +30,7 @@ fn check_credit(state: &[u8], input: &[u8]) -> Outcome
 fn check_debit(state: &[u8], input: &[u8]) -> Outcome
     ensures { λ r. ⌜ r ≡ firstOf (now (state .entry)) (now (input .entry)) (born ∷ takes quantity quantity) ⌝ }
 {
-    registry::check_taking(state, input, QUANTITY, QUANTITY)
+    registry::check_taking(state, input, current_quantity(state), QUANTITY)
 }
 
 fn check_consume(state: &[u8], input: &[u8]) -> Outcome
@@ -42,7 +42,7 @@ fn check_consume(state: &[u8], input: &[u8]) -> Outcome
 fn check_transfer(state: &[u8], input: &[u8]) -> Outcome
     ensures { λ r. ⌜ r ≡ firstOf (now (state .entry)) (now (input .entry)) (born ∷ in-text to-subject ∷ takes quantity quantity) ⌝ }
 {
-    registry::check_taking_with(state, input, TO_SUBJECT, QUANTITY, QUANTITY)
+    registry::check_taking_with(state, input, TO_SUBJECT, current_quantity(state), QUANTITY)
 }
 
 fn check_reserve(state: &[u8], input: &[u8]) -> Outcome
@@ -74,6 +74,12 @@ fn check_adjust(state: &[u8], input: &[u8]) -> Outcome
     ensures { λ r. ⌜ r ≡ firstOf (now (state .entry)) (now (input .entry)) (born ∷ in-amount quantity ∷ []) ⌝ }
 {
     registry::check_setting(state, input, QUANTITY)
+}
+
+fn current_quantity(state: &[u8]) -> Reading
+    ensures { λ r. ⌜ r ≡ amountOf quantity (field (now (state .entry)) quantity) ⌝ }
+{
+    registry::state_amount(state, QUANTITY)
 }
 
 // The operation's list; 4 where it is not of this profile.

@@ -45,13 +45,13 @@ fn check_credit(state: &[u8], input: &[u8]) -> Outcome
 fn check_debit(state: &[u8], input: &[u8]) -> Outcome
     ensures { λ r. ⌜ r ≡ firstOf (now (state .entry)) (now (input .entry)) (born ∷ debited) ⌝ }
 {
-    registry::check_taking(state, input, BALANCE, AMOUNT)
+    registry::check_taking(state, input, current_balance(state), AMOUNT)
 }
 
 fn check_transfer(state: &[u8], input: &[u8]) -> Outcome
     ensures { λ r. ⌜ r ≡ firstOf (now (state .entry)) (now (input .entry)) (born ∷ in-text to-subject ∷ debited) ⌝ }
 {
-    registry::check_taking_with(state, input, TO_SUBJECT, BALANCE, AMOUNT)
+    registry::check_taking_with(state, input, TO_SUBJECT, current_balance(state), AMOUNT)
 }
 
 fn check_reserve(state: &[u8], input: &[u8]) -> Outcome
@@ -75,13 +75,13 @@ fn check_spend(state: &[u8], input: &[u8]) -> Outcome
 fn check_burn(state: &[u8], input: &[u8]) -> Outcome
     ensures { λ r. ⌜ r ≡ firstOf (now (state .entry)) (now (input .entry)) (born ∷ in-text authorized-by ∷ debited) ⌝ }
 {
-    registry::check_taking_with(state, input, AUTHORIZED_BY, BALANCE, AMOUNT)
+    registry::check_taking_with(state, input, AUTHORIZED_BY, current_balance(state), AMOUNT)
 }
 
 fn check_convert(state: &[u8], input: &[u8]) -> Outcome
     ensures { λ r. ⌜ r ≡ firstOf (now (state .entry)) (now (input .entry)) (born ∷ in-text to-unit ∷ debited) ⌝ }
 {
-    registry::check_taking_with(state, input, TO_UNIT, BALANCE, AMOUNT)
+    registry::check_taking_with(state, input, TO_UNIT, current_balance(state), AMOUNT)
 }
 
 fn current_balance(state: &[u8]) -> Reading

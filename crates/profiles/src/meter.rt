@@ -41,7 +41,7 @@ fn check_create(state: &[u8], input: &[u8]) -> Outcome
 fn check_consume(state: &[u8], input: &[u8]) -> Outcome
     ensures { λ r. ⌜ r ≡ firstOf (now (state .entry)) (now (input .entry)) (born ∷ takes remaining amount) ⌝ }
 {
-    registry::check_taking(state, input, REMAINING, AMOUNT)
+    registry::check_taking(state, input, current_remaining(state), AMOUNT)
 }
 
 fn check_refill(state: &[u8]) -> Outcome

@@ -5,11 +5,12 @@ ghost use mathlib.Core.Bool.{not};
 ghost use mathlib.Core.List.{[], _∷_};
 ghost use lib.Dec.{eqb};
 ghost use lib.ListN.{length};
-ghost use Rattle.sheet.specs.Fields.{field};
+ghost use Rattle.sheet.specs.Fields.{field, fieldOf};
 ghost use Rattle.sheet.specs.Sheet.{stateOf, verdictOf};
+ghost use Rattle.sheet.specs.declared.Found.the-variants.{At};
 ghost use Rattle.sheet.specs.declared.Shape.the-variants.{Input};
-ghost use Rattle.profiles.specs.Readers.{textIn, textOf, bytesOf, marked, givenOr, parsed, amountIn, amountOf};
-ghost use Rattle.profiles.specs.Tests.{stateThere, stateAbsent, aboveZero, unlessLess, heldBy, upTo, asking, firstOf, takes, creates, born, in-text, in-amount, _then_};
+ghost use Rattle.profiles.specs.Readers.{textIn, textOf, bytesOf, marked, givenOr, readIn, faultIn, amountIn, amountOf};
+ghost use Rattle.profiles.specs.Tests.{stateThere, stateAbsent, aboveZero, unlessLess, heldBy, upTo, asking, taking, firstOf, creates, born, in-amount, _then_};
 ghost use Rattle.profiles.specs.Check.{stateSound, inputSound, profileOf, operationOf, called};
 use super::error::Outcome;
 use super::error::ProfileError;
@@ -17,6 +18,7 @@ use super::error::Reading;
 use amount::Amount;
 use amount::AmountResult;
 use amount::Ordering;
+use sheet::Entry;
 use sheet::Found;
 
 // The profile that an operation is of; 0 for none.
@@ -182,17 +184,27 @@ pub fn given_or(o: AmountResult, e: ProfileError) -> Reading
     Reading::Given(a)
 }
 
-// The text of an amount: 11, then 10.
-pub fn parse_amount_str(text: &[u8], name: u8) -> Reading
-    ensures { λ r. ⌜ r ≡ parsed name (now (text .entry)) ⌝ }
+// The value of an entry as an amount: a text of digits.
+pub fn parse_amount_str(input: &[u8], e: Entry) -> AmountResult
+    ensures { λ r. ⌜ r ≡ readIn (fieldOf (now (input .entry)) (At e)) ⌝ }
 {
-    if is_float(text) {
-        return Reading::Failed(ProfileError::FloatForbidden(name));
+    if e.kind != sheet::KIND_TEXT {
+        return AmountResult::NotWhole;
     }
-    let AmountResult::Ok(a) = Amount::try_from_str(text) else {
-        return Reading::Failed(ProfileError::NotWhole(name));
-    };
-    Reading::Given(a)
+    Amount::try_from_str(sheet::entry_body(input, e))
+}
+
+// Why it is none: 11 for a text with a point or an exponent's mark, before 10.
+fn amount_fault(input: &[u8], e: Entry, name: u8) -> ProfileError
+    ensures { λ r. ⌜ r ≡ faultIn name (fieldOf (now (input .entry)) (At e)) ⌝ }
+{
+    if e.kind != sheet::KIND_TEXT {
+        return ProfileError::NotWhole(name);
+    }
+    if is_float(sheet::entry_body(input, e)) {
+        return ProfileError::FloatForbidden(name);
+    }
+    ProfileError::NotWhole(name)
 }
 
 // An amount that an input gives as text.
@@ -202,10 +214,10 @@ pub fn input_amount(input: &[u8], name: u8) -> Reading
     let Found::At(e) = sheet::find(input, name) else {
         return Reading::Failed(ProfileError::Missing(name));
     };
-    if e.kind != sheet::KIND_TEXT {
-        return Reading::Failed(ProfileError::NotWhole(name));
-    }
-    parse_amount_str(sheet::entry_body(input, e), name)
+    let AmountResult::Ok(a) = parse_amount_str(input, e) else {
+        return Reading::Failed(amount_fault(input, e, name));
+    };
+    Reading::Given(a)
 }
 
 // An amount that a state holds.
@@ -281,30 +293,30 @@ pub fn require_asked(input: &[u8], available: Amount, asked: u8) -> Outcome
     require_positive_available(requested, available)
 }
 
-// St held, in asked, 14, 15.
-pub fn require_held(state: &[u8], input: &[u8], held: u8, asked: u8) -> Outcome
-    ensures { λ r. ⌜ r ≡ firstOf (now (state .entry)) (now (input .entry)) (takes held asked) ⌝ }
+// The same, of what was read as held.
+fn require_held(input: &[u8], held: Reading, asked: u8) -> Outcome
+    ensures { λ r. ⌜ r ≡ taking held (amountIn asked (field (now (input .entry)) asked)) ⌝ }
 {
-    let available = match state_amount(state, held) {
+    let available = match held {
         Reading::Given(a) => a,
         Reading::Failed(e) => return Outcome::Refused(e),
     };
     require_asked(input, available, asked)
 }
 
-// What all that take from an amount test.
-pub fn check_taking(state: &[u8], input: &[u8], held: u8, asked: u8) -> Outcome
-    ensures { λ r. ⌜ r ≡ firstOf (now (state .entry)) (now (input .entry)) (born ∷ takes held asked) ⌝ }
+// What all that take from an amount test. A profile reads what is held.
+pub fn check_taking(state: &[u8], input: &[u8], held: Reading, asked: u8) -> Outcome
+    ensures { λ r. ⌜ r ≡ (stateThere (not (eqb (length (now (state .entry))) 0)) then taking held (amountIn asked (field (now (input .entry)) asked))) ⌝ }
 {
     if let Outcome::Refused(e) = require_current(state) {
         return Outcome::Refused(e);
     }
-    require_held(state, input, held, asked)
+    require_held(input, held, asked)
 }
 
 // The same with an input text directly after born.
-pub fn check_taking_with(state: &[u8], input: &[u8], name: u8, held: u8, asked: u8) -> Outcome
-    ensures { λ r. ⌜ r ≡ firstOf (now (state .entry)) (now (input .entry)) (born ∷ in-text name ∷ takes held asked) ⌝ }
+pub fn check_taking_with(state: &[u8], input: &[u8], name: u8, held: Reading, asked: u8) -> Outcome
+    ensures { λ r. ⌜ r ≡ (stateThere (not (eqb (length (now (state .entry))) 0)) then textIn name (field (now (input .entry)) name) then taking held (amountIn asked (field (now (input .entry)) asked))) ⌝ }
 {
     if let Outcome::Refused(e) = require_current(state) {
         return Outcome::Refused(e);
@@ -312,7 +324,7 @@ pub fn check_taking_with(state: &[u8], input: &[u8], name: u8, held: u8, asked: 
     if let Outcome::Refused(e) = input_str(input, name) {
         return Outcome::Refused(e);
     }
-    require_held(state, input, held, asked)
+    require_held(input, held, asked)
 }
 
 // Create of a stack or a balance: subject, unit, and the amount of that name.

@@ -2,7 +2,7 @@
 // are proved by hand, so they are few and thin. Each takes the struct apart and calls a covered function on the slice and
 // the number.
 ghost use mathlib.Core.Path.{_≡_};
-ghost use Rattle.sheet.specs.Visit.{stepOf, afterOf};
+ghost use Rattle.sheet.specs.Visit.{stepOf, afterOf, readerOf, behind};
 use super::Entry;
 use super::byte;
 use super::entry_at;
@@ -38,7 +38,7 @@ pub struct Reader<'a> {
 
 // A reader before entry 0.
 pub fn new<'a>(sheet: &'a [u8]) -> Reader<'a>
-    ensures { λ r. ⌜ (r .sheet ≡ sheet .entry) × (r .next ≡ 0) ⌝ }
+    ensures { λ r. ⌜ r ≡ readerOf (sheet .entry) ⌝ }
 {
     Reader { sheet, next: 0 }
 }
@@ -52,7 +52,7 @@ pub fn entry<'a>(r: Reader<'a>) -> Step
 
 // The reader behind the next entry.
 pub fn rest<'a>(r: Reader<'a>) -> Reader<'a>
-    ensures { λ q. ⌜ (q .sheet ≡ r .entry .sheet) × (q .next ≡ afterOf (r .entry .next)) ⌝ }
+    ensures { λ q. ⌜ q ≡ behind (r .entry) ⌝ }
 {
     let next = after(r.next);
     Reader {

@@ -1,7 +1,13 @@
-use Rattle.profiles.proofs.Readers.{amount-in-not}
-use Rattle.profiles.specs.Readers.{amountBy}
+use mathlib.Core.Path.{_≡_, refl}
+use mathlib.Core.Logic.{⊎-elim}
+use native.Mathlib.Omega.{arith}
+use Rattle.amount.specs.declared.AmountResult.{AmountResult}
+use Rattle.amount.specs.declared.AmountResult.the-variants.{Ok, NotWhole, Overflow, Underflow}
+use Rattle.profiles.specs.declared.error.ProfileError.{ProfileError}
+use Rattle.profiles.specs.declared.error.Reading.the-variants as R
+use Rattle.profiles.proofs.Readers.{amount-in-is}
+use Rattle.profiles.specs.Readers.{amountBy, givenOr}
 use Rattle.sheet.specs.Fields.{field}
-use borrow.Author.Tests.{eq-eqb}
 use borrow.Author.Needs.{needs}
 use Rattle.profiles.proofs.registry.input_amount.Statement.{statement}
 use Rattle.profiles.proofs.registry.input_amount.Tie as tie
@@ -19,19 +25,29 @@ returns : tie.Need-returns
 unfolding amountBy field
 returns c = rw (← c .before .before .find .ensures, c .enum-told .given .1)
 
-returns-2 : tie.Need-returns-2
-unfolding amountBy field
-returns-2 c = rw (← c .before .before .before .before .before .find .ensures, c .before .before .before .e .given .1) (amount-in-not _ _ _ (c .if1 .taken))
-
-entry-body-requires : tie.Need-entry-body-requires
-entry-body-requires c κs = search needs
-
 parse-amount-str-requires : tie.Need-parse-amount-str-requires
 parse-amount-str-requires c κs = search needs
 
+enum-known-a : tie.Need-enum-known-a
+enum-known-a c = search needs
+
+amount-fault-requires : tie.Need-amount-fault-requires
+amount-fault-requires c κs = search needs
+
+refused : (c : tie.At-match2-keys2) (o : AmountResult) (e : ProfileError) → o ≡ c .before .parse-amount-str .result → R.Failed e ≡ givenOr e o
+refused c (Ok a) e q =
+    ⊎-elim (λ z. absurd (omega arith)) (⊎-elim (λ z. absurd (omega arith)) (λ z. absurd (omega arith))) (rw (← q) at (c .match2 .keys2))
+refused c NotWhole e q = refl
+refused c Overflow e q = refl
+refused c Underflow e q = refl
+
+returns-2 : tie.Need-returns-2
+unfolding field
+returns-2 c = rw (← c .before .before .before .before .before .before .find .ensures, c .before .before .before .before .e .given .1, amount-in-is, ← c .amount-fault .ensures, ← c .before .before .parse-amount-str .ensures) (refused (c .before) _ _ refl)
+
 returns-3 : tie.Need-returns-3
-unfolding amountBy field
-returns-3 c = rw (← c .before .before .before .before .before .before .before .find .ensures, c .before .before .before .before .before .e .given .1, eq-eqb _ _ (c .before .before .if1 .left), ← c .before .entry-body .ensures) (c .parse-amount-str .ensures)
+unfolding field
+returns-3 c = rw (← c .before .before .before .before .before .before .before .find .ensures, c .before .before .before .before .before .e .given .1, amount-in-is, ← c .before .before .before .parse-amount-str .ensures, c .before .a .given .1)
 
 pub input-amount-spec : {M : Type 1} → statement M
 input-amount-spec =
@@ -41,7 +57,8 @@ input-amount-spec =
     enum-known-e
     enum-told
     returns
-    returns-2
-    entry-body-requires
     parse-amount-str-requires
+    enum-known-a
+    amount-fault-requires
+    returns-2
     returns-3)

@@ -1,33 +1,24 @@
-use Rattle.profiles.proofs.Tests.{then-end}
+use mathlib.Core.Path.{_∙_}
+use Rattle.profiles.proofs.Tests.{asking-is}
 use borrow.Author.Needs.{needs}
 use Rattle.profiles.proofs.registry.require_held.Statement.{statement}
 use Rattle.profiles.proofs.registry.require_held.Tie as tie
 
-state-amount-requires : tie.Need-state-amount-requires
-state-amount-requires c κs = search needs
+enum-known-held : tie.Need-enum-known-held
+enum-known-held c = search needs
 
-enum-known-a : tie.Need-enum-known-a
-enum-known-a c = search needs
-
-enum-known-e : tie.Need-enum-known-e
-enum-known-e c = search needs
+enum-known-held-2 : tie.Need-enum-known-held-2
+enum-known-held-2 c = search needs
 
 returns : tie.Need-returns
-returns c = rw (← c .before .before .before .state-amount .ensures, c .before .e .given .1)
+returns c = rw (c .before .held2 .given .1)
 
 require-asked-requires : tie.Need-require-asked-requires
 require-asked-requires c κs = search needs
 
 returns-2 : tie.Need-returns-2
-returns-2 c = rw (← c .before .before .before .before .state-amount .ensures, c .before .before .a .given .1, then-end) (c .require-asked .ensures)
+returns-2 c = rw (c .before .before .held .given .1) (c .require-asked .ensures ∙ asking-is _ _ _)
 
 pub require-held-spec : {M : Type 1} → statement M
 require-held-spec =
-    tie.close
-    (tie.spec
-    state-amount-requires
-    enum-known-a
-    enum-known-e
-    returns
-    require-asked-requires
-    returns-2)
+    tie.close (tie.spec enum-known-held enum-known-held-2 returns require-asked-requires returns-2)

@@ -88,7 +88,7 @@ module _ {M : Type 1} (𝓤 : URA M) (H : Heap 𝓤) (A : Atoms 𝓤) (W : Given
   exits : (r : ℕ) → r ≡ afterOf (d .next) → r < 2 ^ 64 → ent 𝓤 (onEntry 𝓤 H A rest.signature (κ, tt) (q, tt) (d, tt) (mach ∷ [], tt)) (Post (T′.lowered (made r)))
   exits r e ok =
       qed W ((‵ (flft κ q) ⊛ ‵ ftrue) ∷ ‵ (owns (B (κ, tt) ∷ []) (d, tt) (mach ∷ [], tt)) ∷ []) ∵
-      suffices ! _ (ends-at 𝓤 H A rest.ended stayed (rest.clauses 𝓤 H A mem run) W (((κ, tt), (q, tt), tt, (d, tt), (mach ∷ [], tt)), tt) (T′.lowered (made r)) (made r) (tt, tt) (tt, tt)) $ says ! (refl, e) $
+      suffices ! _ (ends-at 𝓤 H A rest.ended stayed (rest.clauses 𝓤 H A mem run) W (((κ, tt), (q, tt), tt, (d, tt), (mach ∷ [], tt)), tt) (T′.lowered (made r)) (made r) (tt, tt) (tt, tt)) $ says ! (ap made e) $
       frame ! $ fsplit ! $ use1 W (‵ Own ⊛ ‵ Own) (LL.copy (T.the-type (namedLft 1 0 tt (κ, tt))) (T′.the-copy (namedLft 1 0 tt (κ, tt))) 𝓤 H A W .twice d (mach ∷ [])) $ split ! $ move ! (0 ∷ 2 ∷ []) $ fjoin ! $ frame ! $
       -- [what the struct owns]: the number's facts take the place of next's
       owned ! usize (Is usize) (uint-makes 𝓤 H A W w64) r _ (refl, ok) $ move ! (1 ∷ 0 ∷ []) $ by ! (own-put 𝓤 H A W (T.the-type (namedLft 1 0 tt (κ, tt))) (T′.the-laws (namedLft 1 0 tt (κ, tt))) 1 (d .sheet, (d .next, tt)) r mach)
