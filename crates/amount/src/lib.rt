@@ -178,10 +178,10 @@ fn align(a: Amount, b: Amount) -> Aligned
     ensures { λ r. ⌜ r ≡ alignedOf a b ⌝ }
 {
     let scale = larger(a.scale, b.scale);
-    let Checked::Some(left) = rescale(a.mantissa, scale - a.scale) else {
+    let Checked::Some(left) = checked_rescale(a.mantissa, scale - a.scale) else {
         return Aligned::Outside;
     };
-    let Checked::Some(right) = rescale(b.mantissa, scale - b.scale) else {
+    let Checked::Some(right) = checked_rescale(b.mantissa, scale - b.scale) else {
         return Aligned::Outside;
     };
     Aligned::At(Pair { left, right, scale })
@@ -195,7 +195,7 @@ fn larger(a: u8, b: u8) -> u8
 }
 
 // A mantissa at a scale that is `places` larger.
-fn rescale(mantissa: Uint128, places: u8) -> Checked
+fn checked_rescale(mantissa: Uint128, places: u8) -> Checked
     ensures { λ r. ⌜ r ≡ checked (val mantissa * 10 ^ places) ⌝ }
 {
     let mut number = mantissa;

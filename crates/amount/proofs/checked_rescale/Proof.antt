@@ -5,8 +5,8 @@ use Prim.Native.Nat.{_*_, _^_}
 use mathlib.Core.Path.{_∙_, sym}
 use borrow.Author.Needs.{needs}
 use native.Mathlib.Omega.{arith}
-use Rattle.amount.proofs.rescale.Statement.{statement}
-use Rattle.amount.proofs.rescale.Tie as tie
+use Rattle.amount.proofs.checked_rescale.Statement.{statement}
+use Rattle.amount.proofs.checked_rescale.Tie as tie
 
 abbrev Inv-loop : tie.InvT-loop
 Inv-loop places number₀ left₀ number left = Lacks (val number₀ * 10 ^ places) number left
@@ -41,8 +41,8 @@ loop-again c = lacks-less (c .before .before .before .before .before .loop .inv)
 returns-2 : tie.Need-returns-2 Inv-loop μ-loop
 returns-2 c = lacks-none (c .before .loop .inv) (omega arith)
 
-pub rescale-spec : {M : Type 1} → statement M
-rescale-spec =
+pub checked-rescale-spec : {M : Type 1} → statement M
+checked-rescale-spec =
     tie.close
     (tie.spec
     Inv-loop
