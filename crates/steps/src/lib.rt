@@ -2,6 +2,7 @@
 // definitions that the overlap claim of `book` is about.
 mod act;
 mod alter;
+mod begin;
 mod finish;
 mod open;
 mod reads;
@@ -12,6 +13,8 @@ mod totals;
 
 pub use act::act_book;
 pub use act::act_outcome;
+pub use begin::begin_book;
+pub use begin::begin_outcome;
 pub use finish::finish_book;
 pub use finish::finish_outcome;
 pub use open::open_book;
