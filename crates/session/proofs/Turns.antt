@@ -14,37 +14,36 @@ use Rattle.book.specs.declared.error.BookOutcome.{BookOutcome}
 use Rattle.session.specs.Session.{count, lineAt, bodyOf, unitOf, stepOf, stepAt, stepsFrom, stepsOf, brief, answersFrom, answersOf, bookOf, noAnswer, filled, goodRun}
 use Rattle.session.specs.declared.Line.{Line}
 use Rattle.session.specs.declared.StepAnswer.{StepAnswer}
-use Rattle.session.specs.declared.Run.{Run}
 
 -- ---- lists of steps
 
 -- what the logic reads past the last step; no claim turns on it
-abbrev pub noStep : Step
+abbrev noStep : Step
 noStep = Finish 0
 
-pub steps-length : (s : List ℕ) (m k : ℕ) → length (stepsFrom s k m) ≡ m
+steps-length : (s : List ℕ) (m k : ℕ) → length (stepsFrom s k m) ≡ m
 unfolding stepsFrom
 steps-length s zero k = refl
 steps-length s (suc m) k = ap suc (steps-length s m (suc k))
 
-pub step-at : (s : List ℕ) (m k j : ℕ) → j < m → getD (stepsFrom s k m) j noStep ≡ stepAt s (k + j)
+step-at : (s : List ℕ) (m k j : ℕ) → j < m → getD (stepsFrom s k m) j noStep ≡ stepAt s (k + j)
 unfolding stepsFrom
 step-at s zero k j h = absurd (not-suc-le-zero h)
 step-at s (suc m) k zero h = ap (stepAt s) (omega arith)
 step-at s (suc m) k (suc j) h = step-at s m (suc k) j (le-of-suc-le-suc h) ∙ ap (stepAt s) (omega arith)
 
-pub answers-length : (ss : List Step) (b : Book) → length (answersFrom b ss) ≡ length ss
+answers-length : (ss : List Step) (b : Book) → length (answersFrom b ss) ≡ length ss
 answers-length [] b = refl
 answers-length (x ∷ ss) b = ap suc (answers-length ss (next b x))
 
 -- one step more
-pub run-next : (ss : List Step) (b : Book) (j : ℕ) → j < length ss → run b (take (suc j) ss) ≡ next (run b (take j ss)) (getD ss j noStep)
+run-next : (ss : List Step) (b : Book) (j : ℕ) → j < length ss → run b (take (suc j) ss) ≡ next (run b (take j ss)) (getD ss j noStep)
 run-next [] b j h = absurd (not-suc-le-zero h)
 run-next (x ∷ ss) b zero h = refl
 run-next (x ∷ ss) b (suc j) h = run-next ss (next b x) j (le-of-suc-le-suc h)
 
 -- each answer is its step's, on the book as the ones before left it
-pub answer-at : (ss : List Step) (b : Book) (j : ℕ) → j < length ss
+answer-at : (ss : List Step) (b : Book) (j : ℕ) → j < length ss
     → getD (answersFrom b ss) j noAnswer ≡ brief (answerOf (answer (run b (take j ss)) (getD ss j noStep)))
 answer-at [] b j h = absurd (not-suc-le-zero h)
 answer-at (x ∷ ss) b zero h = refl
@@ -83,7 +82,7 @@ module _ (s : List ℕ) where
     unfolding stepsOf
     step-of = step-at s (count s - 1) 1 j h ∙ ap (stepAt s) (omega arith)
 
-    pub book-next : run (startBook (unitOf s)) (take (j + 1) (stepsOf s)) ≡ next (run (startBook (unitOf s)) (take j (stepsOf s))) (stepAt s (j + 1))
+    book-next : run (startBook (unitOf s)) (take (j + 1) (stepsOf s)) ≡ next (run (startBook (unitOf s)) (take j (stepsOf s))) (stepAt s (j + 1))
     book-next =
         let i : j + 1 ≡ suc j = omega arith in
         rw i (run-next (stepsOf s) (startBook (unitOf s)) j (omega (arith, count-steps)) ∙ rw (step-of, i))

@@ -86,7 +86,7 @@ fn bad_run() -> Run
     }
 }
 
-// Every step, on the book as the one before left it. Step j + 1 is entry j + 1, where the start is entry 0.
+// Every step, on the book as the one before left it. Step j + 1 is entry j + 1 of a table counted from 0.
 fn do_steps(s: &[u8]) -> Run
     requires { ⌜ good (now s) ≡ true ⌝ }
     ensures { λ r. ⌜ r ≡ goodRun (now (s .entry)) ⌝ }
