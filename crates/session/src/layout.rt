@@ -1,0 +1,125 @@
+// The layout of a session, judged on any bytes.
+ghost use mathlib.Core.Path.{_≡_};
+ghost use mathlib.Core.Bool.{_&&_};
+ghost use lib.Dec.{eqb};
+ghost use Prim.Native.Nat.{_<_};
+ghost use Rattle.session.specs.Session.{lineAt, bodyOf, startFits, stepFits, lineFits, sound};
+use super::Line;
+
+// The most bytes of a session, and the most entries.
+const MAX_BYTES: usize = 16384;
+
+const MAX_ENTRIES: usize = 256;
+
+// Entry k of the table.
+pub fn line_at(s: &[u8], k: usize) -> Line
+    requires { ⌜ k < 256 ⌝ }
+    ensures { λ r. ⌜ r ≡ lineAt (now (s .entry)) k ⌝ }
+{
+    let p = 2 + 8 * k;
+    Line {
+        kind: sheet::byte(s, p),
+        a: sheet::byte(s, p + 1),
+        b: sheet::byte(s, p + 2),
+        t: sheet::byte(s, p + 3),
+        offset: sheet::u16_at(s, p + 4),
+        len: sheet::u16_at(s, p + 6),
+    }
+}
+
+// The body of an entry, as a part of the session.
+pub fn body(s: &[u8], l: Line) -> &[u8]
+    ensures { λ r. ⌜ now r ≡ bodyOf (now (s .entry)) l ⌝ }
+{
+    sheet::part(s, l.offset as usize, l.len as usize)
+}
+
+// Entry one is kind 0 and uses no field.
+fn start_fits(l: Line) -> bool
+    ensures { λ r. ⌜ r ≡ startFits l ⌝ }
+{
+    if l.kind != 0 {
+        return false;
+    }
+    if l.a != 0 {
+        return false;
+    }
+    open_fits(l)
+}
+
+// An open uses a alone: its b and t are 0.
+fn open_fits(l: Line) -> bool
+    ensures { λ r. ⌜ r ≡ eqb (l .b) 0 && eqb (l .t) 0 ⌝ }
+{
+    if l.b != 0 {
+        return false;
+    }
+    l.t == 0
+}
+
+// A finish uses t alone, and has no body.
+fn finish_fits(l: Line) -> bool
+    ensures { λ r. ⌜ r ≡ eqb (l .a) 0 && eqb (l .b) 0 && eqb (l .len) 0 ⌝ }
+{
+    if l.a != 0 {
+        return false;
+    }
+    if l.b != 0 {
+        return false;
+    }
+    l.len == 0
+}
+
+// A later entry; a second start is none of the steps.
+fn step_fits(l: Line) -> bool
+    ensures { λ r. ⌜ r ≡ stepFits l ⌝ }
+{
+    let kind = l.kind;
+    match kind {
+        1 => open_fits(l),
+        2 => l.t == 0,
+        3 => true,
+        4 => finish_fits(l),
+        _ => false,
+    }
+}
+
+// Entry k, whose body must start at `at`.
+fn line_fits(k: usize, l: Line, at: usize) -> bool
+    ensures { λ r. ⌜ r ≡ lineFits k l at ⌝ }
+{
+    if l.offset as usize != at {
+        return false;
+    }
+    if k == 0 {
+        return start_fits(l);
+    }
+    step_fits(l)
+}
+
+// Whether the bytes are a session. `at` is where the next body must start, and moves by each entry's own length.
+pub fn is_sound(s: &[u8]) -> bool
+    ensures { λ r. ⌜ r ≡ sound (now (s .entry)) ⌝ }
+{
+    if MAX_BYTES < s.len() {
+        return false;
+    }
+    let n = sheet::u16_at(s, 0) as usize;
+    if n < 1 {
+        return false;
+    }
+    if MAX_ENTRIES < n {
+        return false;
+    }
+    let mut at = 2 + 8 * n;
+    let mut k: usize = 0;
+    while k < n {
+        let l = line_at(s, k);
+        if !line_fits(k, l, at) {
+            return false;
+        }
+        at += l.len as usize;
+        k += 1;
+    }
+    at == s.len()
+}
