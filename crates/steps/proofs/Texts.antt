@@ -1,4 +1,4 @@
--- A name filled byte by byte, and the tests of a step that come last.
+-- A name filled byte by byte, and an amount that is there.
 use mathlib.Core.Path.{_≡_, refl, ap, _∙_}
 use mathlib.Core.Bool.{Bool, true, false, _||_}
 use mathlib.Core.List.{List, [], _∷_, _++_}
@@ -14,10 +14,7 @@ use Rattle.amount.specs.declared.AmountResult.{AmountResult}
 use Rattle.amount.specs.declared.AmountResult.the-variants.{Ok}
 use Rattle.amount.proofs.Halves.{val-halves}
 use Rattle.book.specs.Book.{nameOf, wholeAmount}
-use Rattle.book.specs.Steps.{firstRefusal}
 use Rattle.book.specs.declared.Name.{Name}
-use Rattle.book.specs.declared.error.BookOutcome.{BookOutcome}
-use Rattle.book.specs.declared.error.BookOutcome.the-variants.{Accepted, Refused}
 
 put-one : (t : List ℕ) (m i : ℕ) → i < length t → set (take i t ++ zeros (suc m)) i (getD t i 0) ≡ take (suc i) t ++ zeros m
 unfolding zeros
@@ -51,10 +48,6 @@ unfolding nameOf
 filled-all t b i f h =
     let e : i ≡ length t = omega (arith, f .0) in
     ap {B = Name} (λ (l : List ℕ). record { bytes = l; len = length t }) (f .1 ∙ rw (e, take-whole t))
-
-pub last-test : (o : BookOutcome) → firstRefusal (o ∷ []) ≡ o
-last-test Accepted = refl
-last-test (Refused e) = refl
 
 pub or-none : (t : Bool) → t || false ≡ t
 or-none true = refl
