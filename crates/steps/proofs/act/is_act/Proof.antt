@@ -1,37 +1,41 @@
-use Rattle.steps.proofs.Texts.{or-none}
-use Rattle.book.specs.Steps.{acts}
+use Rattle.steps.proofs.Texts.{or-none, acts-by, subtracts}
+use Rattle.book.specs.Steps.{acts, adds}
 use borrow.Author.Tests.{eq-eqb, ne-eqb}
+use mathlib.Core.Bool.{true, false}
+use mathlib.Core.Path.{_≡_, sym, _∙_}
+use borrow.Author.Needs.{needs}
 use Rattle.steps.proofs.act.is_act.Statement.{statement}
 use Rattle.steps.proofs.act.is_act.Tie as tie
 
+-- it does not add: what is left to ask is whether it subtracts
+left : (c : tie.Else1) → acts (c .before .before .args .operation) ≡ subtracts (c .before .before .args .operation)
+left c = acts-by _ ∙ rw (sym (c .before .is-adding .ensures) ∙ c .if1 .left)
+
+is-adding-requires : tie.Need-is-adding-requires
+is-adding-requires c κs = search needs
+
 returns : tie.Need-returns
-unfolding acts
-returns c = rw (eq-eqb _ 12 (c .if1 .taken))
+returns c = rw (acts-by (c .before .before .args .operation), sym (c .before .is-adding .ensures) ∙ c .if1 .taken)
 
 returns-2 : tie.Need-returns-2
-unfolding acts
-returns-2 c = rw (ne-eqb _ 12 (c .before .if1 .left), eq-eqb _ 13 (c .if2 .taken))
+returns-2 c = rw (left (c .before), eq-eqb _ 14 (c .if2 .taken))
 
 returns-3 : tie.Need-returns-3
-unfolding acts
-returns-3 c = rw (ne-eqb _ 12 (c .before .before .if1 .left), ne-eqb _ 13 (c .before .if2 .left), eq-eqb _ 14 (c .if3 .taken))
+returns-3 c = rw (left (c .before .before), ne-eqb _ 14 (c .before .if2 .left), eq-eqb _ 16 (c .if3 .taken))
 
 returns-4 : tie.Need-returns-4
-unfolding acts
-returns-4 c = rw (ne-eqb _ 12 (c .before .before .before .if1 .left), ne-eqb _ 13 (c .before .before .if2 .left), ne-eqb _ 14 (c .before .if3 .left), eq-eqb _ 16 (c .if4 .taken))
+returns-4 c =
+    rw (left (c .before .before .before), ne-eqb _ 14 (c .before .before .if2 .left), ne-eqb _ 16 (c .before .if3 .left), eq-eqb _ 18 (c .if4 .taken))
 
 returns-5 : tie.Need-returns-5
-unfolding acts
-returns-5 c = rw (ne-eqb _ 12 (c .before .before .before .before .if1 .left), ne-eqb _ 13 (c .before .before .before .if2 .left), ne-eqb _ 14 (c .before .before .if3 .left), ne-eqb _ 16 (c .before .if4 .left), eq-eqb _ 17 (c .if5 .taken))
-
-returns-6 : tie.Need-returns-6
-unfolding acts
-returns-6 c = rw (ne-eqb _ 12 (c .before .before .before .before .before .if1 .left), ne-eqb _ 13 (c .before .before .before .before .if2 .left), ne-eqb _ 14 (c .before .before .before .if3 .left), ne-eqb _ 16 (c .before .before .if4 .left), ne-eqb _ 17 (c .before .if5 .left), eq-eqb _ 18 (c .if6 .taken))
-
-returns-7 : tie.Need-returns-7
-unfolding acts
-returns-7 c = rw (ne-eqb _ 12 (c .before .before .before .before .before .if1 .left), ne-eqb _ 13 (c .before .before .before .before .if2 .left), ne-eqb _ 14 (c .before .before .before .if3 .left), ne-eqb _ 16 (c .before .before .if4 .left), ne-eqb _ 17 (c .before .if5 .left), ne-eqb _ 18 (c .if6 .left), or-none)
+returns-5 c =
+    rw (
+      left (c .before .before .before),
+      ne-eqb _ 14 (c .before .before .if2 .left),
+      ne-eqb _ 16 (c .before .if3 .left),
+      ne-eqb _ 18 (c .if4 .left),
+      or-none,
+    )
 
 pub is-act-spec : {M : Type 1} → statement M
-is-act-spec =
-    tie.close (tie.spec returns returns-2 returns-3 returns-4 returns-5 returns-6 returns-7)
+is-act-spec = tie.close (tie.spec is-adding-requires returns returns-2 returns-3 returns-4 returns-5)
