@@ -61,7 +61,8 @@ checks : (c : tie.After-check-at) → let x = start-5 (c .before .before .before
 unfolding placeRecord
 checks c =
     let x = start-5 (c .before .before .before) .args in
-    checked-at (x .t1) (x .place) (x .operation) (field (x .input .now)) (here (c .before .before .before .before .before .before .before .before)) _ (c .check-at .ensures)
+    checked-at (x .t1) (x .place) (x .operation) (field (x .input .now))
+    (here (c .before .before .before .before .before .before .before .before)) _ (c .check-at .ensures)
 
 past-6 : (c : tie.After-enum-told2) → Left (start-6 c) 6
 unfolding testsAct

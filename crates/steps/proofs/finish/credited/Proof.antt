@@ -32,8 +32,9 @@ returns : tie.Need-returns
 unfolding placeRecord
 returns c =
     let x = c .before .before .before .before .before .before .before .before .args in
+    let sum = fits-so (heldAt (x .t1) (x .p) + val (x .n)) _ _ (c .before .before .before .before .checked-add .ensures) (c .before .before .m .given .1) in
     c .with-credits .ensures
-    ∙ ap (setCredits (x .t1) (x .p)) (val-of (fits-so (heldAt (x .t1) (x .p) + val (x .n)) _ _ (c .before .before .before .before .checked-add .ensures) (c .before .before .m .given .1) .1))
+    ∙ ap (setCredits (x .t1) (x .p)) (val-of (sum .1))
 
 returns-2 : tie.Need-returns-2
 unfolding placeRecord

@@ -1,8 +1,7 @@
-use Rattle.steps.proofs.Carried.{finish-low, finish-to, finish-fits}
-use Rattle.book.specs.declared.Book.{Book}
-use Rattle.book.specs.Book.{setTransfer, blankTransfer, transferRecord}
+use Rattle.steps.proofs.Carried.{finish-low, finish-to, finish-fits, finish-done}
+use Rattle.book.specs.Book.{transferRecord}
 use native.Mathlib.Omega.{arith}
-use mathlib.Core.Path.{ap, _∙_}
+use mathlib.Core.Path.{_∙_}
 use borrow.Author.Needs.{needs}
 use Rattle.steps.proofs.finish.finished.Statement.{statement}
 use Rattle.steps.proofs.finish.finished.Tie as tie
@@ -24,9 +23,7 @@ freed-requires c κs = let x = c .before .before .before in finish-low (x .args 
 
 returns : tie.Need-returns
 unfolding transferRecord
-returns c =
-    let x = c .before .before .before .before .args in
-    c .freed .ensures ∙ ap (λ (b : Book). setTransfer b (x .t) 0 blankTransfer) (c .before .credited .ensures)
+returns c = let x = c .before .before .before .before .args in c .freed .ensures ∙ finish-done (x .t1) (x .t) _ (c .before .credited .ensures)
 
 pub finished-spec : {M : Type 1} → statement M
 finished-spec =
