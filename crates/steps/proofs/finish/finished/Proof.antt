@@ -1,7 +1,7 @@
 use Rattle.steps.proofs.Carried.{finish-low, finish-to, finish-fits, finish-done}
-use Rattle.book.specs.Book.{transferRecord}
 use native.Mathlib.Omega.{arith}
-use mathlib.Core.Path.{_∙_}
+use Rattle.book.specs.Book.{transferRecord, setTransfer, blankTransfer}
+use mathlib.Core.Path.{_≡_, _∙_}
 use borrow.Author.Needs.{needs}
 use Rattle.steps.proofs.finish.finished.Statement.{statement}
 use Rattle.steps.proofs.finish.finished.Tie as tie
@@ -21,9 +21,13 @@ credited-requires c κs =
 freed-requires : tie.Need-freed-requires
 freed-requires c κs = let x = c .before .before .before in finish-low (x .args .t1) (x .args .t) (x .pre)
 
+-- the number is freed in the book that was credited
+frees : (c : tie.After-freed) → c .freed .result ≡ setTransfer (c .before .credited .result) (c .before .before .before .before .args .t) 0 blankTransfer
+frees c = c .freed .ensures
+
 returns : tie.Need-returns
 unfolding transferRecord
-returns c = let x = c .before .before .before .before .args in c .freed .ensures ∙ finish-done (x .t1) (x .t) _ (c .before .credited .ensures)
+returns c = let x = c .before .before .before .before .args in frees c ∙ finish-done (x .t1) (x .t) _ (c .before .credited .ensures)
 
 pub finished-spec : {M : Type 1} → statement M
 finished-spec =
