@@ -10,7 +10,7 @@ use borrow.Author.Needs.{needs}
 use Rattle.steps.proofs.act.act_outcome.Statement.{statement}
 use Rattle.steps.proofs.act.act_outcome.Tie as tie
 
--- ---- the tests passed, each at its place
+-- ---- the tests passed, each at its place: 28, 22, 6, 2, 4, the check
 
 abbrev Left : tie.Start → ℕ → Type 0
 Left c n = Past (c .args .t1) (Act (c .args .place) (c .args .operation) (c .args .input .now)) n
