@@ -1,8 +1,7 @@
-use Rattle.steps.proofs.Carried.{finish-low, finish-to, finish-fits}
-use Rattle.book.specs.declared.Book.{Book}
-use Rattle.book.specs.Book.{setTransfer, blankTransfer, transferRecord}
+use Rattle.steps.proofs.Carried.{finish-low, finish-to, finish-fits, finish-done}
 use native.Mathlib.Omega.{arith}
-use mathlib.Core.Path.{ap, _∙_}
+use Rattle.book.specs.Book.{transferRecord, setTransfer, blankTransfer}
+use mathlib.Core.Path.{_≡_, _∙_}
 use borrow.Author.Needs.{needs}
 use Rattle.steps.proofs.finish.finished.Statement.{statement}
 use Rattle.steps.proofs.finish.finished.Tie as tie
@@ -15,14 +14,20 @@ element-copy-out-r c = finish-low (c .args .t1) (c .args .t) (c .pre)
 
 credited-requires : tie.Need-credited-requires
 unfolding transferRecord
-credited-requires c κs = (finish-to (c .before .before .args .t1) (c .before .before .args .t) (c .before .before .pre) (omega arith), finish-fits (c .before .before .args .t1) (c .before .before .args .t) (c .before .before .pre) (omega arith))
+credited-requires c κs =
+    let x = c .before .before in
+    (finish-to (x .args .t1) (x .args .t) (x .pre) (omega arith), finish-fits (x .args .t1) (x .args .t) (x .pre) (omega arith))
 
 freed-requires : tie.Need-freed-requires
-freed-requires c κs = finish-low (c .before .before .before .args .t1) (c .before .before .before .args .t) (c .before .before .before .pre)
+freed-requires c κs = let x = c .before .before .before in finish-low (x .args .t1) (x .args .t) (x .pre)
+
+-- the number is freed in the book that was credited
+frees : (c : tie.After-freed) → c .freed .result ≡ setTransfer (c .before .credited .result) (c .before .before .before .before .args .t) 0 blankTransfer
+frees c = c .freed .ensures
 
 returns : tie.Need-returns
 unfolding transferRecord
-returns c = c .freed .ensures ∙ ap (λ (x : Book). setTransfer x (c .before .before .before .before .args .t) 0 blankTransfer) (c .before .credited .ensures)
+returns c = let x = c .before .before .before .before .args in frees c ∙ finish-done (x .t1) (x .t) _ (c .before .credited .ensures)
 
 pub finished-spec : {M : Type 1} → statement M
 finished-spec =
