@@ -2,6 +2,7 @@
 // definitions that the overlap claim of `book` is about.
 mod act;
 mod alter;
+mod answers;
 mod finish;
 mod open;
 mod reads;
@@ -12,6 +13,10 @@ mod totals;
 
 pub use act::act_book;
 pub use act::act_outcome;
+pub use answers::act_answer;
+pub use answers::finish_answer;
+pub use answers::open_answer;
+pub use answers::start_answer;
 pub use finish::finish_book;
 pub use finish::finish_outcome;
 pub use open::open_book;
