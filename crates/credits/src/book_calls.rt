@@ -1,7 +1,7 @@
 // The book behind C: a book is lent and one step is done in it. A refused step leaves it as it was.
 ghost use mathlib.Core.Path.{_≡_};
 ghost use Rattle.book.specs.Refusals.{answerOf};
-ghost use Rattle.book.specs.Steps.{Open, Act, Finish, answer, next, startAnswer, startBook};
+ghost use Rattle.book.specs.Steps.{Open, Act, Begin, Finish, answer, next, startAnswer, startBook};
 use book::Book;
 use profiles::error::Answer;
 
@@ -52,6 +52,22 @@ pub extern "C" fn credits_book_act(
 {
     let a = steps::act_answer(*book, place, operation, sheet);
     *book = steps::act_book(*book, place, operation, sheet);
+    a
+}
+
+#[no_mangle]
+pub extern "C" fn credits_book_begin(
+    book: &mut Book,
+    from: u8,
+    to: u8,
+    transfer: u8,
+    sheet: &[u8],
+) -> Answer
+    ensures { λ r. ⌜ (r ≡ answerOf (answer (now (book .entry)) (Begin from to transfer (now (sheet .entry)))))
+        × (now (book .exit) ≡ next (now (book .entry)) (Begin from to transfer (now (sheet .entry)))) ⌝ }
+{
+    let a = steps::begin_answer(*book, from, to, transfer, sheet);
+    *book = steps::begin_book(*book, from, to, transfer, sheet);
     a
 }
 

@@ -1,27 +1,34 @@
 -- What the code of a step needs to know of an accepted one, on any book value, and what it answers then.
-use mathlib.Core.Path.{_≡_, refl}
-use mathlib.Core.Bool.{true, false}
+use mathlib.Core.Path.{_≡_, refl, ap, _∙_}
+use mathlib.Core.Bool.{Bool, true, false, _||_, true≢false}
 use mathlib.Core.List.{List}
-use Prim.Native.Nat.{ℕ, _+_, _^_, _≤_, _<_}
+use Prim.Native.Nat.{ℕ, _+_, _-_, _^_, _≤_, _<_}
 use native.Mathlib.Omega.{arith}
 use lib.Dec.{leb, ltb}
 use lib.ListN.{length}
-use borrow.Author.Tests.{leb-true}
-use Rattle.amount.specs.Numbers.{limit}
-use Rattle.sheet.specs.Fields.{field, subject, balance}
+use borrow.Author.Tests.{leb-true, leb-false}
+use Rattle.amount.specs.Numbers.{val, limit}
+use Rattle.amount.specs.Amounts.{answerOf, differenceOf}
+use Rattle.amount.specs.declared.Amount.{Amount}
+use Rattle.amount.specs.declared.AmountResult.{AmountResult}
+use Rattle.amount.specs.declared.Given.{Given}
+use Rattle.sheet.specs.Fields.{field, subject, balance, amount}
 use Rattle.profiles.specs.Readers.{amountIn}
 use Rattle.profiles.specs.Tests.{first, creates}
 use Rattle.profiles.specs.Balance.{balanceRules}
 use Rattle.places.specs.Places.{closedView}
-use Rattle.book.specs.Book.{transferRecord, placeAt, isSome, credits, total, nameOk, wellFormed}
-use Rattle.book.specs.Steps.{Step, Open, Act, Finish, bytesIn, seen, answer, after, effect, next, heldAt}
+use Rattle.book.specs.Sets.{has}
+use Rattle.book.specs.Book.{placeRecord, transferRecord, placeAt, isSome, credits, total, nameOk, wellFormed, setCredits, setTransfer}
+use Rattle.book.specs.Steps.{Step, Open, Act, Begin, Finish, creditsIn, bytesIn, seen, answer, after, effect, next, heldAt}
 use Rattle.book.specs.declared.Book.{Book}
 use Rattle.book.specs.declared.error.BookError.{BookError}
 use Rattle.book.specs.declared.error.BookOutcome.the-variants.{Accepted, Refused}
-use Rattle.book.proofs.Facts.{Finishes, finishes, acts-so, Opens, opens, accepted-tests}
+use Rattle.book.proofs.Facts.{Finishes, finishes, acts-so, Begins, begins, Opens, opens, accepted-tests}
 use Rattle.book.proofs.Formed.{Formed, formed, and-r}
 use Rattle.book.proofs.Views.{transfer-raw, home-open, open-lt}
-use Rattle.book.proofs.Effects.{held-part, load-part}
+use Rattle.book.proofs.Effects.{asked, asked-whole, held-part, load-part, begin-takes}
+use Rattle.steps.proofs.Sums.{place-in}
+use Rattle.steps.proofs.Texts.{given-so}
 
 -- ---- the book after a step
 
@@ -83,3 +90,42 @@ unit-short b h = leb-true (b .unit .len) 32 (and-r (ltb 0 (b .unit .len)) (leb (
 pub create-is : (i : List ℕ) → first amountIn closedView (field i) (creates balance) ≡ balanceRules amountIn closedView (field i) 11
 unfolding balanceRules
 create-is i = refl
+
+-- ---- begin
+
+or-both : (s t : Bool) → s || t ≡ false → (s ≡ false) × (t ≡ false)
+or-both true t h = absurd (true≢false h)
+or-both false t h = (refl, h)
+
+-- 22 is passed
+pub low-ends : (f g t : ℕ) → leb 16 f || leb 16 g || leb 8 t ≡ false → (f < 16) × (g < 16)
+low-ends f g t h =
+    let e = or-both (leb 16 f) (leb 16 g) (or-both (leb 16 f || leb 16 g) (leb 8 t) h .0) in
+    (leb-false 16 f (e .0), leb-false 16 g (e .1))
+
+-- 28 is passed, and the place is open
+pub subject-short : (b : Book) (p : ℕ) → wellFormed b ≡ true → p < 16 → has (b .opened) p ≡ true → placeRecord b p .subject .len ≤ 32
+unfolding nameOk
+subject-short b p h low here =
+    let n : ℕ = placeRecord b p .subject .len in
+    leb-true n 32 (and-r (ltb 0 n) (leb n 32) (rw (place-in b p here) at (formed b h .places p low)))
+
+module _ (b : Book) (f g t : ℕ) (i : List ℕ) (h : answer b (Begin f g t i) ≡ Accepted) where
+  begin-facts : Begins (seen b) f g t i
+  begin-facts = begins (seen b) f g t i (accepted-tests b (Begin f g t i) h .1)
+
+  pub begin-from : f < 16
+  begin-from = begin-facts .low-from
+
+  pub begin-number : t < 8
+  begin-number = begin-facts .low-number
+
+  -- what the code stores: the amount left the source, and is under way
+  pub begin-done : (a : Amount) (r : AmountResult) (z : Given) (paid : Book) → a ≡ asked amount i → r ≡ differenceOf (placeRecord b f .balance) a
+      → z ≡ answerOf r → paid ≡ setCredits b f (val (z .amount .mantissa))
+      → setTransfer paid t 1 (record { from = f; to = g; amount = a }) ≡ effect b (Begin f g t i)
+  begin-done a r z paid e k m p =
+      let n : ℕ = heldAt b f - creditsIn amount i in
+      let left : val (z .amount .mantissa) ≡ n =
+      given-so r z n m (k ∙ ap (differenceOf (placeRecord b f .balance)) e ∙ begin-takes b f g t i h) in
+      rw (p, left, e, asked-whole amount i)

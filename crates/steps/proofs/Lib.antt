@@ -4,3 +4,5 @@ pub mod Sums
 pub mod Texts
 pub mod Same
 pub mod Carried
+pub mod Tested
+pub mod Sending

@@ -38,6 +38,18 @@ pub fn with_credits(mut book: Book, p: u8, n: Uint128) -> Book
     book
 }
 
+// Transfer t is under way, and its record is r.
+pub fn with_transfer(mut book: Book, t: u8, r: Transfer) -> Book
+    requires { ⌜ t < 8 ⌝ }
+    ensures { λ x. ⌜ x ≡ setTransfer book t 1 r ⌝ }
+{
+    let i = t as usize;
+    book.transfers[i] = r;
+    let pending = sets::with8(book.pending, t);
+    book.pending = pending;
+    book
+}
+
 // Transfer t is no longer under way, and its record is zeros.
 pub fn freed(mut book: Book, t: u8) -> Book
     requires { ⌜ t < 8 ⌝ }

@@ -1,11 +1,14 @@
-// What a step reads of its sheet.
+// What a step reads of its sheet, and what the profile says of it.
 ghost use mathlib.Core.Path.{_≡_};
 ghost use Prim.Native.Nat.{_≤_};
 ghost use lib.ListN.{take};
 ghost use Rattle.sheet.specs.Fields.{field};
 ghost use Rattle.profiles.specs.Readers.{amountIn, readAmount};
-ghost use Rattle.book.specs.Steps.{sameBytes};
+ghost use Rattle.book.specs.Steps as steps;
 use amount::Amount;
+use book::error::BookError;
+use book::error::BookOutcome;
+use profiles::error::Outcome;
 use profiles::error::Reading;
 use profiles::registry;
 
@@ -22,7 +25,7 @@ pub fn asked(input: &[u8], name: u8) -> Amount
 // The first bytes of a name are that text.
 pub fn same_text(bytes: [u8; 32], len: u8, text: &[u8]) -> bool
     requires { ⌜ len ≤ 32 ⌝ }
-    ensures { λ r. ⌜ r ≡ sameBytes (take len bytes) (now (text .entry)) ⌝ }
+    ensures { λ r. ⌜ r ≡ steps.sameBytes (take len bytes) (now (text .entry)) ⌝ }
 {
     let n = len as usize;
     if n != text.len() {
@@ -36,4 +39,14 @@ pub fn same_text(bytes: [u8; 32], len: u8, text: &[u8]) -> bool
         i += 1;
     }
     true
+}
+
+// What a profile says, as a step says it.
+pub fn said(o: Outcome) -> BookOutcome
+    ensures { λ r. ⌜ r ≡ steps.said o ⌝ }
+{
+    match o {
+        Outcome::Accepted => BookOutcome::Accepted,
+        Outcome::Refused(e) => BookOutcome::Refused(BookError::Profile(e)),
+    }
 }

@@ -1,5 +1,6 @@
 // Sets of small numbers as bits of a number: bit p is 1 where p is in the set.
 ghost use mathlib.Core.Path.{_≡_};
+ghost use mathlib.Core.Bool.{_&&_};
 ghost use Prim.Native.Nat.{_<_};
 ghost use Rattle.book.specs.Sets.{has, withBit};
 
@@ -10,6 +11,16 @@ pub fn has16(set: u16, p: u8) -> bool
         return false;
     }
     (set >> p) & 1 == 1
+}
+
+// Both p and q.
+pub fn both16(set: u16, p: u8, q: u8) -> bool
+    ensures { λ r. ⌜ r ≡ has «set» p && has «set» q ⌝ }
+{
+    if has16(set, p) {
+        return has16(set, q);
+    }
+    false
 }
 
 pub fn has8(set: u8, t: u8) -> bool

@@ -37,10 +37,7 @@ fn transfer_ok(opened: u16, moving: bool, r: Transfer) -> bool
     ensures { λ x. ⌜ x ≡ cond moving (has opened (r .from) && has opened (r .to)) true ⌝ }
 {
     if moving {
-        if sets::has16(opened, r.from) {
-            return sets::has16(opened, r.to);
-        }
-        return false;
+        return sets::both16(opened, r.from, r.to);
     }
     true
 }

@@ -114,19 +114,19 @@ module _ {M : Type 1} (𝓤 : URA M) (H : Heap 𝓤) (A : Atoms 𝓤) (W : Given
   said-next : (z : Book) → ent 𝓤 (ensured 𝓤 H A n.ended (n.clauses 𝓤 H A at-mem run) tt (h, (t, tt)) tt z) (fact 𝓤 (z ≡ after))
   said-next z = exE 𝓤 _ (λ ws. snd∗ 𝓤 (sem 𝓤 H A (lasts n.ended tt (h, (t, tt)) ws)) (fact 𝓤 (z ≡ after)))
 
-  module _ (gt : t < 2 ^ 8) where
+  module _ (t-fits : t < 2 ^ 8) where
     gives-answer : ent 𝓤 (⋆ 𝓤 H A (‵ (T.the-row .own h (mach h)) ∷ [])) (Answers 𝓤 H A at-mem run .pre to-answer)
-    gives-answer = qed W (‵ (T.the-row .own h (mach h)) ∷ []) ∵ nothing ! $ owned ! u8 (Is u8) (uint-makes 𝓤 H A W w8) t _ (refl, gt) $ fjoin ! $ move ! (1 ∷ 0 ∷ []) $ fjoin ! $ nothing ! $ join ! $ frame ! $ done !
+    gives-answer = qed W (‵ (T.the-row .own h (mach h)) ∷ []) ∵ nothing ! $ owned ! u8 (Is u8) (uint-makes 𝓤 H A W w8) t _ (refl, t-fits) $ fjoin ! $ move ! (1 ∷ 0 ∷ []) $ fjoin ! $ nothing ! $ join ! $ frame ! $ done !
 
     gives-next : ent 𝓤 (⋆ 𝓤 H A (‵ (T.the-row .own h (mach h)) ∷ [])) (Nexts 𝓤 H A at-mem run .pre to-next)
-    gives-next = qed W (‵ (T.the-row .own h (mach h)) ∷ []) ∵ nothing ! $ owned ! u8 (Is u8) (uint-makes 𝓤 H A W w8) t _ (refl, gt) $ fjoin ! $ move ! (1 ∷ 0 ∷ []) $ fjoin ! $ nothing ! $ join ! $ frame ! $ done !
+    gives-next = qed W (‵ (T.the-row .own h (mach h)) ∷ []) ∵ nothing ! $ owned ! u8 (Is u8) (uint-makes 𝓤 H A W w8) t _ (refl, t-fits) $ fjoin ! $ move ! (1 ∷ 0 ∷ []) $ fjoin ! $ nothing ! $ join ! $ frame ! $ done !
 
     exits : Is R.the-row told (LL.vals R.the-type R′.the-laws told) → ent 𝓤 (⋆ 𝓤 H A (‵ (fobs γ (T.the-row .coded .code after)) ∷ ‵ (fbor κ (Body (mem T.the-row) b o γ)) ∷ ‵ (flft κ q) ∷ [])) (Post (LL.val R.the-type R′.the-laws told))
     exits is =
         qed W (‵ (fobs γ (T.the-row .coded .code after)) ∷ ‵ (fbor κ (Body (mem T.the-row) b o γ)) ∷ ‵ (flft κ q) ∷ []) ∵
         suffices ! _ (ends-at 𝓤 H A f.ended stayed (f.clauses 𝓤 H A at-mem run) W (((κ, tt), (q, tt), tt, x, at), tt) (LL.val R.the-type R′.the-laws told) told (after, (tt, tt)) (tt, (tt, tt))) $
         says ! (refl, refl) $ nothing ! $ move ! (3 ∷ 0 ∷ []) $ join ! $
-        frame ! $ feqI ! (List Val) (vptr b o ∷ []) (vptr b o ∷ []) refl $ fjoin3 ! $ nothing ! $ owned ! u8 (Is u8) (uint-makes 𝓤 H A W w8) t _ (refl, gt) $ fjoin ! $ move ! (1 ∷ 0 ∷ []) $ fjoin ! $
+        frame ! $ feqI ! (List Val) (vptr b o ∷ []) (vptr b o ∷ []) refl $ fjoin3 ! $ nothing ! $ owned ! u8 (Is u8) (uint-makes 𝓤 H A W w8) t _ (refl, t-fits) $ fjoin ! $ move ! (1 ∷ 0 ∷ []) $ fjoin ! $
         owned ! R.the-row (Is R.the-row) (LL.makes R.the-type R′.the-plain 𝓤 H A) told _ is $ move ! (1 ∷ 0 ∷ []) $ done !
 
     module _ (C : Calls 𝓤 H) (Λ : Loops 𝓤 H) (fm : FmC 𝓤 H (W .laws) C) (known-answer : Triple 𝓤 (C #answer) (Answers 𝓤 H A at-mem run)) (known-next : Triple 𝓤 (C #book) (Nexts 𝓤 H A at-mem run)) where
@@ -135,7 +135,7 @@ module _ {M : Type 1} (𝓤 : URA M) (H : Heap 𝓤) (A : Atoms 𝓤) (W : Given
           qed W ((‵ (flft κ q) ⊛ ‵ ftrue) ∷ ‵ (owns (MutRef (named 0) κ T.the-row ∷ u8 ∷ []) x at) ∷ []) ∵ split ! $ move ! (2 ∷ []) $ fsplit ! $ fsplit3 ! $ drop ! $ move ! (0 ∷ 1 ∷ 3 ∷ []) $
           -- [obs; the borrow; its token]
           enter ! C Λ code.function (vptr b o ∷ vint w8 t ∷ []) _ $
-          alloc1 ! (λ l0. alloc1 ! (λ l1. alloc1 ! (λ l2. alloc1 ! (λ l3. alloc1 ! (λ l4. alloc1 ! (λ l5. alloc0 ! $ params1 ! $ pass1 ! (init ! 8 refl (tt, tt)) $ pass1 ! (init ! 6 refl (tt, record { fits = gt })) $ pass0 ! $
+          alloc1 ! (λ l0. alloc1 ! (λ l1. alloc1 ! (λ l2. alloc1 ! (λ l3. alloc1 ! (λ l4. alloc1 ! (λ l5. alloc0 ! $ params1 ! $ pass1 ! (init ! 8 refl (tt, tt)) $ pass1 ! (init ! 6 refl (tt, record { fits = t-fits })) $ pass0 ! $
           move ! (12 ∷ 13 ∷ 14 ∷ []) $ opens ! tt T.the-row {h = h} b o (λ vs. spelt ! T.the-row (Is T.the-row) (shows 𝓤 H A T.the-row) mach (LL.tells T.the-type T′.the-laws) fullShare h vs b o $
           move ! (1 ∷ []) $ peeks ! T.the-row (Is T.the-row) (shows 𝓤 H A T.the-row) h (mach h) (λ was. move ! (1 ∷ 0 ∷ []) $
           -- [the book's cell; what a Book owns; the open borrow; obs; auth; the locals, last first, each with its end; ..]

@@ -2,20 +2,14 @@ use borrow.Author.Needs.{needs}
 use Rattle.steps.proofs.soundness.transfer_ok.Statement.{statement}
 use Rattle.steps.proofs.soundness.transfer_ok.Tie as tie
 
-has16-requires : tie.Need-has16-requires
-has16-requires c κs = search needs
-
-has16-requires-2 : tie.Need-has16-requires-2
-has16-requires-2 c κs = search needs
+both16-requires : tie.Need-both16-requires
+both16-requires c κs = search needs
 
 returns : tie.Need-returns
-returns c = rw (c .before .before .before .if1 .taken, ← c .before .before .has16 .ensures, c .before .if2 .taken) (c .has162 .ensures)
+returns c = rw (c .before .if1 .taken) (c .both16 .ensures)
 
 returns-2 : tie.Need-returns-2
-returns-2 c = rw (c .before .before .if1 .taken, ← c .before .has16 .ensures, c .if2 .left)
-
-returns-3 : tie.Need-returns-3
-returns-3 c = rw (c .if1 .left)
+returns-2 c = rw (c .if1 .left)
 
 pub transfer-ok-spec : {M : Type 1} → statement M
-transfer-ok-spec = tie.close (tie.spec has16-requires has16-requires-2 returns returns-2 returns-3)
+transfer-ok-spec = tie.close (tie.spec both16-requires returns returns-2)

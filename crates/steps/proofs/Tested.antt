@@ -1,0 +1,99 @@
+-- The tests of a step one after another: what its answer is once the first n of them were passed, and what each test goes by.
+use mathlib.Core.Path.{_≡_, refl, sym, ap, _∙_}
+use mathlib.Core.Bool.{Bool, true, false, not, _&&_}
+use mathlib.Core.List.{List, [], _∷_}
+use Prim.Native.Nat.{ℕ, zero, suc}
+use lib.ListN.{getD, drop}
+use borrow.Author.Tests.{not-true, not-false}
+use Rattle.places.specs.Places.{placeView, closedView}
+use Rattle.book.specs.Sets.{has}
+use Rattle.book.specs.Book.{nameBytes, placeRecord, placeAt, wellFormed}
+use Rattle.book.specs.Steps.{Step, refusedIf, firstRefusal, testsOf, viewOf, seen, answer}
+use Rattle.book.specs.declared.Book.{Book}
+use Rattle.book.specs.declared.error.BookError.{BookError}
+use Rattle.book.specs.declared.error.BookError.the-variants.{BadBook}
+use Rattle.book.specs.declared.error.BookOutcome.{BookOutcome}
+use Rattle.book.specs.declared.error.BookOutcome.the-variants.{Accepted, Refused}
+use Rattle.book.proofs.Formed.{and-l, and-r}
+use Rattle.steps.proofs.Sums.{place-in, place-out, busy-by}
+
+-- ---- in their order
+
+abbrev pub tests : Book → Step → List BookOutcome
+tests b s = refusedIf (not (wellFormed b)) BadBook ∷ testsOf (seen b) s
+
+-- 28 is test 0
+abbrev pub test : Book → Step → ℕ → BookOutcome
+test b s n = getD (tests b s) n Accepted
+
+-- the first n tests were passed: the answer is that of the rest
+pub record Past (b : Book) (s : Step) (n : ℕ) : Type 0 where
+  pub rest : answer b s ≡ firstRefusal (drop n (tests b s))
+
+split : (n : ℕ) (ts : List BookOutcome) → firstRefusal (drop n ts) ≡ firstRefusal (getD ts n Accepted ∷ drop (suc n) ts)
+split zero [] = refl
+split zero (t ∷ ts) = refl
+split (suc n) [] = refl
+split (suc n) (t ∷ ts) = split n ts
+
+module _ {b : Book} {s : Step} {n : ℕ} (p : Past b s n) where
+  at-test : answer b s ≡ firstRefusal (test b s n ∷ drop (suc n) (tests b s))
+  at-test = p .rest ∙ split n (tests b s)
+
+  pub pass : test b s n ≡ Accepted → Past b s (suc n)
+  pass h = record { rest = at-test ∙ ap (λ (t : BookOutcome). firstRefusal (t ∷ drop (suc n) (tests b s))) h }
+
+  pub stop : (e : BookError) → test b s n ≡ Refused e → Refused e ≡ answer b s
+  stop e h = sym (at-test ∙ ap (λ (t : BookOutcome). firstRefusal (t ∷ drop (suc n) (tests b s))) h)
+
+  pub last : (r : BookOutcome) → drop (suc n) (tests b s) ≡ [] → r ≡ test b s n → r ≡ answer b s
+  last r e h = h ∙ sym (at-test ∙ ap (λ (ts : List BookOutcome). firstRefusal (test b s n ∷ ts)) e ∙ alone (test b s n))
+    where
+      alone : (o : BookOutcome) → firstRefusal (o ∷ []) ≡ o
+      alone Accepted = refl
+      alone (Refused e) = refl
+
+  pub done : drop n (tests b s) ≡ [] → Accepted ≡ answer b s
+  done e = sym (p .rest ∙ ap firstRefusal e)
+
+-- 28, by the code's test of it
+module _ (b : Book) (s : Step) (r : Bool) (h : r ≡ wellFormed b) where
+  pub bad-book : not r ≡ true → Refused BadBook ≡ answer b s
+  unfolding answer
+  bad-book k = rw (sym h ∙ not-true r k)
+
+  pub past-28 : not r ≡ false → Past b s 1
+  unfolding answer
+  past-28 k = record { rest = rw (sym h ∙ not-false r k) }
+
+-- ---- what they go by
+
+module _ (b : Book) (p : ℕ) where
+  pub place-closed : has (b .opened) p ≡ false → seen b .place p ≡ closedView
+  unfolding seen
+  place-closed h = ap (viewOf (nameBytes (b .unit))) (place-out b p h)
+
+  pub place-open : has (b .opened) p ≡ true
+      → seen b .place p ≡ placeView (nameBytes (placeRecord b p .subject)) (nameBytes (b .unit)) (placeRecord b p .balance)
+  unfolding seen
+  place-open h = ap (viewOf (nameBytes (b .unit))) (place-in b p h)
+
+  pub place-there : seen b .place p .there ≡ has (b .opened) p
+  place-there = go (has (b .opened) p) refl
+    where
+      go : (t : Bool) → has (b .opened) p ≡ t → seen b .place p .there ≡ t
+      go true h = rw (place-open h)
+      go false h = rw (place-closed h)
+
+  pub number-busy : seen b .busy p ≡ has (b .pending) p
+  unfolding seen
+  number-busy = busy-by b p
+
+pub ends-there : (b : Book) (f g : ℕ) → seen b .place f .there && seen b .place g .there ≡ has (b .opened) f && has (b .opened) g
+ends-there b f g = rw (place-there b f, place-there b g)
+
+abbrev pub Here : Book → ℕ → Type 0
+Here b p = has (b .opened) p ≡ true
+
+pub both-here : (b : Book) (f g : ℕ) → has (b .opened) f && has (b .opened) g ≡ true → Here b f × Here b g
+both-here b f g h = (and-l (has (b .opened) f) (has (b .opened) g) h, and-r (has (b .opened) f) (has (b .opened) g) h)

@@ -1,0 +1,108 @@
+// A begin: the amount leaves the source and is under way to the destination.
+ghost use mathlib.Core.Path.{_≡_};
+ghost use mathlib.Core.Bool.{_||_};
+ghost use mathlib.Core.List.{List};
+ghost use Prim.Native.Nat.{ℕ, _≤_};
+ghost use lib.Dec.{leb};
+ghost use lib.ListN.{take};
+ghost use Rattle.sheet.specs.Fields.{field, text, to-subject};
+ghost use Rattle.profiles.specs.Readers.{amountIn};
+ghost use Rattle.profiles.specs.Balance.{balanceRules};
+ghost use Rattle.places.specs.Places.{placeView, putField};
+ghost use Rattle.book.specs.Steps.{Begin, answer, next, effect};
+ghost use Rattle.book.specs.declared.error.BookOutcome.the-variants.{Accepted};
+use crate::alter;
+use crate::reads;
+use crate::sets;
+use crate::soundness;
+use amount::Amount;
+use book::Book;
+use book::Transfer;
+use book::error::BookError;
+use book::error::BookOutcome;
+use profiles::error::Outcome;
+use profiles::error::ProfileError;
+use profiles::registry;
+
+// 22.
+fn off_the_book(from: u8, to: u8, transfer: u8) -> bool
+    ensures { λ r. ⌜ r ≡ leb 16 from || leb 16 to || leb 8 transfer ⌝ }
+{
+    if 15 < from {
+        return true;
+    }
+    if 15 < to {
+        return true;
+    }
+    7 < transfer
+}
+
+// balance.transfer's check with the first bytes of a name as its to_subject.
+fn check_sending(bytes: [u8; 32], len: u8, held: Amount, input: &[u8]) -> Outcome
+    requires { ⌜ len ≤ 32 ⌝ }
+    ensures { λ r. ⌜ ((s u : List ℕ) → r ≡ balanceRules amountIn (placeView s u held) (putField (field (now (input .entry))) to-subject (text (take len bytes))) 15) ⌝ }
+{
+    let n = len as usize;
+    let to_subject = &bytes[..n];
+    if to_subject.len() == 0 {
+        return Outcome::Refused(ProfileError::Empty(sheet::TO_SUBJECT));
+    }
+    places::check_debit_at(held, input)
+}
+
+// 28, 22, 24, 21, 6, 2, balance.transfer's check.
+pub fn begin_outcome(book: Book, from: u8, to: u8, transfer: u8, input: &[u8]) -> BookOutcome
+    ensures { λ r. ⌜ r ≡ answer book (Begin from to transfer (now (input .entry))) ⌝ }
+{
+    if !soundness::well_formed(book) {
+        return BookOutcome::Refused(BookError::BadBook);
+    }
+    if off_the_book(from, to, transfer) {
+        return BookOutcome::Refused(BookError::OffTheBook);
+    }
+    if from == to {
+        return BookOutcome::Refused(BookError::Itself);
+    }
+    let pending = book.pending;
+    if sets::has8(pending, transfer) {
+        return BookOutcome::Refused(BookError::UnderWay);
+    }
+    let opened = book.opened;
+    if !sets::both16(opened, from, to) {
+        return BookOutcome::Refused(BookError::Profile(ProfileError::Unborn));
+    }
+    if let Outcome::Refused(e) = registry::require_sound_input(input) {
+        return BookOutcome::Refused(BookError::Profile(e));
+    }
+    let i = from as usize;
+    let source = book.places[i];
+    let j = to as usize;
+    let aim = book.places[j];
+    let name = aim.subject;
+    let bytes = name.bytes;
+    reads::said(check_sending(bytes, name.len, source.balance, input))
+}
+
+// The book after it; a refused one leaves it as it was.
+pub fn begin_book(book: Book, from: u8, to: u8, transfer: u8, input: &[u8]) -> Book
+    ensures { λ r. ⌜ r ≡ next book (Begin from to transfer (now (input .entry))) ⌝ }
+{
+    match begin_outcome(book, from, to, transfer, input) {
+        BookOutcome::Accepted => begun(book, from, to, transfer, input),
+        BookOutcome::Refused(_) => book,
+    }
+}
+
+fn begun(book: Book, from: u8, to: u8, transfer: u8, input: &[u8]) -> Book
+    requires { ⌜ answer book (Begin from to transfer (now input)) ≡ Accepted ⌝ }
+    ensures { λ r. ⌜ r ≡ effect book (Begin from to transfer (now (input .entry))) ⌝ }
+{
+    let i = from as usize;
+    let source = book.places[i];
+    let held = source.balance;
+    let amount = reads::asked(input, sheet::AMOUNT);
+    let less = held.checked_sub(amount).given();
+    let left = less.amount;
+    let paid = alter::with_credits(book, from, left.mantissa);
+    alter::with_transfer(paid, transfer, Transfer { from, to, amount })
+}
