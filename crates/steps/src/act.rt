@@ -27,23 +27,17 @@ fn is_adding(operation: u8) -> bool
     operation == 17
 }
 
-// The operations of act.
+// The operations of act: those that add, and those that subtract.
 fn is_act(operation: u8) -> bool
     ensures { λ r. ⌜ r ≡ acts operation ⌝ }
 {
-    if operation == 12 {
-        return true;
-    }
-    if operation == 13 {
+    if is_adding(operation) {
         return true;
     }
     if operation == 14 {
         return true;
     }
     if operation == 16 {
-        return true;
-    }
-    if operation == 17 {
         return true;
     }
     if operation == 18 {

@@ -1,7 +1,7 @@
 use Rattle.steps.proofs.Tested.{Past, past-28, bad-book, pass, stop, last, ends-there, number-busy, Here, both-here}
 use Rattle.steps.proofs.Sending.{sent-at}
 use Rattle.steps.proofs.Carried.{low-ends, subject-short}
-use Rattle.book.specs.Steps.{Step, Begin, testsBegin, said}
+use Rattle.book.specs.Steps.{Begin, testsBegin, said}
 use Rattle.book.specs.Book.{nameBytes, placeRecord, wellFormed}
 use borrow.Author.Tests.{not-true, not-false, eq-eqb, ne-eqb}
 use Prim.Native.Nat.{ℕ, _≤_, _<_}
@@ -117,7 +117,9 @@ enum-known-e c = search needs
 
 returns-6 : tie.Need-returns-6
 unfolding testsBegin
-returns-6 c = stop (past-5 (c .before .before .before .before)) _ (ap said (sym (c .before .before .before .require-sound-input .ensures) ∙ c .before .e .given .1))
+returns-6 c =
+    stop (past-5 (c .before .before .before .before)) _
+    (ap said (sym (c .before .before .before .require-sound-input .ensures) ∙ c .before .e .given .1))
 
 enum-told : tie.Need-enum-told
 enum-told c = search needs

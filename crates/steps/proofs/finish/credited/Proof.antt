@@ -30,11 +30,17 @@ enum-told c = search needs
 
 returns : tie.Need-returns
 unfolding placeRecord
-returns c = c .with-credits .ensures ∙ ap (setCredits (c .before .before .before .before .before .before .before .before .args .t1) (c .before .before .before .before .before .before .before .before .args .p)) (val-of (fits-so (heldAt (c .before .before .before .before .before .before .before .before .args .t1) (c .before .before .before .before .before .before .before .before .args .p) + val (c .before .before .before .before .before .before .before .before .args .n)) _ _ (c .before .before .before .before .checked-add .ensures) (c .before .before .m .given .1) .1))
+returns c =
+    let x = c .before .before .before .before .before .before .before .before .args in
+    c .with-credits .ensures
+    ∙ ap (setCredits (x .t1) (x .p)) (val-of (fits-so (heldAt (x .t1) (x .p) + val (x .n)) _ _ (c .before .before .before .before .checked-add .ensures) (c .before .before .m .given .1) .1))
 
 returns-2 : tie.Need-returns-2
 unfolding placeRecord
-returns-2 c = absurd (omega (arith, passes-so (heldAt (c .before .before .before .before .before .before .args .t1) (c .before .before .before .before .before .before .args .p) + val (c .before .before .before .before .before .before .args .n)) _ (c .before .before .checked-add .ensures) (c .enum-told .given .1), c .before .before .before .before .before .before .pre .1))
+returns-2 c =
+    let x = c .before .before .before .before .before .before in
+    let over = passes-so (heldAt (x .args .t1) (x .args .p) + val (x .args .n)) _ (c .before .before .checked-add .ensures) (c .enum-told .given .1) in
+    absurd (omega (arith, over, x .pre .1))
 
 pub credited-spec : {M : Type 1} → statement M
 credited-spec =

@@ -15,14 +15,18 @@ element-copy-out-r c = finish-low (c .args .t1) (c .args .t) (c .pre)
 
 credited-requires : tie.Need-credited-requires
 unfolding transferRecord
-credited-requires c κs = (finish-to (c .before .before .args .t1) (c .before .before .args .t) (c .before .before .pre) (omega arith), finish-fits (c .before .before .args .t1) (c .before .before .args .t) (c .before .before .pre) (omega arith))
+credited-requires c κs =
+    let x = c .before .before in
+    (finish-to (x .args .t1) (x .args .t) (x .pre) (omega arith), finish-fits (x .args .t1) (x .args .t) (x .pre) (omega arith))
 
 freed-requires : tie.Need-freed-requires
-freed-requires c κs = finish-low (c .before .before .before .args .t1) (c .before .before .before .args .t) (c .before .before .before .pre)
+freed-requires c κs = let x = c .before .before .before in finish-low (x .args .t1) (x .args .t) (x .pre)
 
 returns : tie.Need-returns
 unfolding transferRecord
-returns c = c .freed .ensures ∙ ap (λ (x : Book). setTransfer x (c .before .before .before .before .args .t) 0 blankTransfer) (c .before .credited .ensures)
+returns c =
+    let x = c .before .before .before .before .args in
+    c .freed .ensures ∙ ap (λ (b : Book). setTransfer b (x .t) 0 blankTransfer) (c .before .credited .ensures)
 
 pub finished-spec : {M : Type 1} → statement M
 finished-spec =
