@@ -4,5 +4,6 @@ pub mod Sums
 pub mod Texts
 pub mod Same
 pub mod Carried
+pub mod Numbered
 pub mod Tested
 pub mod Sending

@@ -90,7 +90,7 @@ pub fn act_book(book: Book, place: u8, operation: u8, input: &[u8]) -> Book
     }
 }
 
-fn acted(book: Book, place: u8, operation: u8, input: &[u8]) -> Book
+pub fn acted(book: Book, place: u8, operation: u8, input: &[u8]) -> Book
     requires { ⌜ answer book (Act place operation (now input)) ≡ Accepted ⌝ }
     ensures { λ r. ⌜ r ≡ effect book (Act place operation (now (input .entry))) ⌝ }
 {

@@ -60,7 +60,7 @@ pub fn open_book(book: Book, place: u8, input: &[u8]) -> Book
     }
 }
 
-fn opened_at(book: Book, place: u8, input: &[u8]) -> Book
+pub fn opened_at(book: Book, place: u8, input: &[u8]) -> Book
     requires { ⌜ answer book (Open place (now input)) ≡ Accepted ⌝ }
     ensures { λ r. ⌜ r ≡ effect book (Open place (now (input .entry))) ⌝ }
 {
