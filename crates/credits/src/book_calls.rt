@@ -36,7 +36,7 @@ pub extern "C" fn credits_book_open(book: &mut Book, place: u8, sheet: &[u8]) ->
         × (now (book .exit) ≡ next (now (book .entry)) (Open place (now (sheet .entry)))) ⌝ }
 {
     let a = steps::open_answer(*book, place, sheet);
-    *book = steps::open_book(*book, place, sheet);
+    *book = steps::open_after(*book, place, a.number, sheet);
     a
 }
 
@@ -51,7 +51,7 @@ pub extern "C" fn credits_book_act(
         × (now (book .exit) ≡ next (now (book .entry)) (Act place operation (now (sheet .entry)))) ⌝ }
 {
     let a = steps::act_answer(*book, place, operation, sheet);
-    *book = steps::act_book(*book, place, operation, sheet);
+    *book = steps::act_after(*book, place, operation, a.number, sheet);
     a
 }
 
@@ -67,7 +67,7 @@ pub extern "C" fn credits_book_begin(
         × (now (book .exit) ≡ next (now (book .entry)) (Begin from to transfer (now (sheet .entry)))) ⌝ }
 {
     let a = steps::begin_answer(*book, from, to, transfer, sheet);
-    *book = steps::begin_book(*book, from, to, transfer, sheet);
+    *book = steps::begin_after(*book, from, to, transfer, a.number, sheet);
     a
 }
 
@@ -77,6 +77,6 @@ pub extern "C" fn credits_book_finish(book: &mut Book, transfer: u8) -> Answer
         × (now (book .exit) ≡ next (now (book .entry)) (Finish transfer)) ⌝ }
 {
     let a = steps::finish_answer(*book, transfer);
-    *book = steps::finish_book(*book, transfer);
+    *book = steps::finish_after(*book, transfer, a.number);
     a
 }

@@ -1,5 +1,5 @@
 -- `credits::credits_book_act` meets its contract: a walk of its MIR, by hand. The borrow is opened; the book is copied out for each of two
--- calls, `act_answer` and `act_book`; the second's book is stored, and the borrow is closed at it. All that the proof knows of the two
+-- calls, `act_answer` and `act_after`; the second's book is stored, and the borrow is closed at it. All that the proof knows of the two
 -- is that they meet their contracts. Assumes nothing.
 use mathlib.Core.Path.{_≡_, refl, ap, subst}
 use Prim.Native.Nat.{ℕ, _<_, _^_}
@@ -17,7 +17,8 @@ use ghost.Atoms.{Atoms, sem}
 use contract.Monad.{Fun, fact}
 use contract.Running.{givenOf, tables, tablesOf}
 use types.Kit.{Given, ‵, raw, some, later, _⊛_, ⋆, _$_, _∵_, !, qed, by, move, keep, drop, use1, use3, split, join, pick, rewrite, fsplit, fsplit3, fjoin, fjoin3, feqI, suffices, frame, await, done}
-use types.Run.{look, look-raw, store, store-raw, init, forget, stop, hop, from, load, of-opd, and-then, no-more, assigns, land, returns, enter, alloc1, alloc0, params1, pass1, pass0, free1, free0}
+use types.Run.{look, look-raw, store, store-raw, init, forget, stop, hop, fld, from, load, of-opd, and-then, no-more, assigns, land, returns, enter, alloc1, alloc0, params1, pass1, pass0, free1, free0}
+use types.Part.{whole, sub, look-in}
 use types.SemTy.{Body}
 use sound.WpLaws.{FmC, fmOf, WpFn-mono}
 use denote.RattleType.{owns}
@@ -52,10 +53,10 @@ use Rattle.steps.proofs.act_answer as a
 use Rattle.steps.proofs.act_answer.Symbol as a-def
 use Rattle.steps.proofs.act_answer.Symbol.{name as #answer}
 use Rattle.steps.proofs.act_answer.Met as a-thm
-use Rattle.steps.proofs.act_book as n
-use Rattle.steps.proofs.act_book.Symbol as n-def
-use Rattle.steps.proofs.act_book.Symbol.{name as #book}
-use Rattle.steps.proofs.act_book.Met as n-thm
+use Rattle.steps.proofs.act_after as n
+use Rattle.steps.proofs.act_after.Symbol as n-def
+use Rattle.steps.proofs.act_after.Symbol.{name as #book}
+use Rattle.steps.proofs.act_after.Met as n-thm
 use Rattle.credits.proofs.book_calls.credits_book_act.Key.{name as #self}
 use Rattle.credits.proofs.book_calls.credits_book_act as f
 use Rattle.credits.proofs.book_calls.credits_book_act.Statement as stated
@@ -92,7 +93,7 @@ module _ {M : Type 1} (𝓤 : URA M) (H : Heap 𝓤) (A : Atoms 𝓤) (W : Given
   abbrev mach : Book → List Val
   mach = LL.vals T.the-type T′.the-laws
 
-  -- what the two calls give
+  -- what the two calls give: the second is given the first's number
   abbrev told : Answer
   told = answerOf (answer h (Act p op (s .now)))
 
@@ -114,20 +115,20 @@ module _ {M : Type 1} (𝓤 : URA M) (H : Heap 𝓤) (A : Atoms 𝓤) (W : Given
   to-answer = (((κ′, tt), (q′, tt), tt, (h, (p, (op, (s, tt)))), (mach h, (vint w8 p ∷ [], (vint w8 op ∷ [], (u ∷ [], tt))))), tt)
 
   abbrev to-next : Nexts 𝓤 H A at-mem run .Ghost
-  to-next = (((κ′, tt), (q′, tt), tt, (h, (p, (op, (s, tt)))), (mach h, (vint w8 p ∷ [], (vint w8 op ∷ [], (u ∷ [], tt))))), tt)
+  to-next = (((κ′, tt), (q′, tt), tt, (h, (p, (op, (told .number, (s, tt))))), (mach h, (vint w8 p ∷ [], (vint w8 op ∷ [], (vint w8 (told .number) ∷ [], (u ∷ [], tt)))))), tt)
 
   said-answer : (z : Answer) → ent 𝓤 (ensured 𝓤 H A a.ended (a.clauses 𝓤 H A at-mem run) (κ′, tt) (h, (p, (op, (s, tt)))) tt z) (fact 𝓤 (z ≡ told))
   said-answer z = exE 𝓤 _ (λ ws. snd∗ 𝓤 (sem 𝓤 H A (lasts a.ended (κ′, tt) (h, (p, (op, (s, tt)))) ws)) (fact 𝓤 (z ≡ told)))
 
-  said-next : (z : Book) → ent 𝓤 (ensured 𝓤 H A n.ended (n.clauses 𝓤 H A at-mem run) (κ′, tt) (h, (p, (op, (s, tt)))) tt z) (fact 𝓤 (z ≡ after))
-  said-next z = exE 𝓤 _ (λ ws. snd∗ 𝓤 (sem 𝓤 H A (lasts n.ended (κ′, tt) (h, (p, (op, (s, tt)))) ws)) (fact 𝓤 (z ≡ after)))
+  said-next : (z : Book) → ent 𝓤 (ensured 𝓤 H A n.ended (n.clauses 𝓤 H A at-mem run) (κ′, tt) (h, (p, (op, (told .number, (s, tt))))) tt z) (fact 𝓤 (z ≡ after))
+  said-next z = exE 𝓤 _ (λ ws. snd∗ 𝓤 (sem 𝓤 H A (lasts n.ended (κ′, tt) (h, (p, (op, (told .number, (s, tt))))) ws)) (fact 𝓤 (z ≡ after)))
 
   module _ (p-fits : p < 2 ^ 8) (op-fits : op < 2 ^ 8) where
     gives-answer : ent 𝓤 (⋆ 𝓤 H A (‵ (T.the-row .own h (mach h)) ∷ ‵ Own ∷ (‵ (flft κ′ q′) ⊛ ‵ ftrue) ∷ [])) (Answers 𝓤 H A at-mem run .pre to-answer)
     gives-answer = qed W (‵ (T.the-row .own h (mach h)) ∷ ‵ Own ∷ (‵ (flft κ′ q′) ⊛ ‵ ftrue) ∷ []) ∵ nothing ! $ move ! (2 ∷ 0 ∷ []) $ fjoin ! $ owned ! u8 (Is u8) (uint-makes 𝓤 H A W w8) op _ (refl, op-fits) $ fjoin ! $ owned ! u8 (Is u8) (uint-makes 𝓤 H A W w8) p _ (refl, p-fits) $ fjoin ! $ move ! (1 ∷ 0 ∷ []) $ fjoin ! $ move ! (1 ∷ 0 ∷ []) $ join ! $ frame ! $ done !
 
-    gives-next : ent 𝓤 (⋆ 𝓤 H A (‵ (T.the-row .own h (mach h)) ∷ ‵ Own ∷ (‵ (flft κ′ q′) ⊛ ‵ ftrue) ∷ [])) (Nexts 𝓤 H A at-mem run .pre to-next)
-    gives-next = qed W (‵ (T.the-row .own h (mach h)) ∷ ‵ Own ∷ (‵ (flft κ′ q′) ⊛ ‵ ftrue) ∷ []) ∵ nothing ! $ move ! (2 ∷ 0 ∷ []) $ fjoin ! $ owned ! u8 (Is u8) (uint-makes 𝓤 H A W w8) op _ (refl, op-fits) $ fjoin ! $ owned ! u8 (Is u8) (uint-makes 𝓤 H A W w8) p _ (refl, p-fits) $ fjoin ! $ move ! (1 ∷ 0 ∷ []) $ fjoin ! $ move ! (1 ∷ 0 ∷ []) $ join ! $ frame ! $ done !
+    gives-next : told .number < 2 ^ 8 → ent 𝓤 (⋆ 𝓤 H A (‵ (T.the-row .own h (mach h)) ∷ ‵ Own ∷ (‵ (flft κ′ q′) ⊛ ‵ ftrue) ∷ [])) (Nexts 𝓤 H A at-mem run .pre to-next)
+    gives-next number-fits = qed W (‵ (T.the-row .own h (mach h)) ∷ ‵ Own ∷ (‵ (flft κ′ q′) ⊛ ‵ ftrue) ∷ []) ∵ says ! refl $ nothing ! $ move ! (2 ∷ 0 ∷ []) $ fjoin ! $ owned ! u8 (Is u8) (uint-makes 𝓤 H A W w8) (told .number) _ (refl, number-fits) $ fjoin ! $ owned ! u8 (Is u8) (uint-makes 𝓤 H A W w8) op _ (refl, op-fits) $ fjoin ! $ owned ! u8 (Is u8) (uint-makes 𝓤 H A W w8) p _ (refl, p-fits) $ fjoin ! $ move ! (1 ∷ 0 ∷ []) $ fjoin ! $ move ! (1 ∷ 0 ∷ []) $ frame ! $ done !
 
     exits : Is R.the-row told (LL.vals R.the-type R′.the-laws told) → ent 𝓤 (⋆ 𝓤 H A (‵ (fobs γ (T.the-row .coded .code after)) ∷ ‵ (fbor κ (Body (mem T.the-row) b o γ)) ∷ ‵ (flft κ q) ∷ (‵ (flft κ′ q′) ⊛ ‵ ftrue) ∷ ‵ Own ∷ [])) (Post (LL.val R.the-type R′.the-laws told))
     exits is =
@@ -156,9 +157,9 @@ module _ {M : Type 1} (𝓤 : URA M) (H : Heap 𝓤) (A : Atoms 𝓤) (W : Given
           -- [what the Answer owns; the slice's token; the book's cell; the open borrow; obs; auth; the locals; ..]
           land ! (from ! (stop !)) (init ! 10 refl (LL.lawful R.the-type R′.the-laws 𝓤 H A W .typed told _ isa .0)) $ rewrite ! 10 (λ (y : Val). ‵ (fat fullShare R′.mir l5 0 y)) (ap only (LL.tells R.the-type R′.the-laws told _ isa)) refl $ drop ! $
           assigns ! (of-opd ! (load ! (from ! (hop ! (look ! 17 refl) (stop !))) (look-raw ! 1 refl))) (from ! (stop !)) (init ! 5 refl (LL.lawful T.the-type T′.the-laws 𝓤 H A W .typed h _ was .0)) $
-          owned ! T.the-row (Is T.the-row) (LL.makes T.the-type T′.the-plain 𝓤 H A) h _ was $ move ! (0 ∷ 22 ∷ 1 ∷ []) $ use3 W (raw (Nexts 𝓤 H A at-mem run .pre to-next)) gives-next $
-          calls-at ! fm (Nexts 𝓤 H A at-mem run) known-next to-next (and-then ! (load ! (from ! (stop !)) (look ! 5 refl)) (and-then ! (load ! (from ! (stop !)) (look ! 15 refl)) (and-then ! (load ! (from ! (stop !)) (look ! 13 refl)) (and-then ! (load ! (from ! (stop !)) (look ! 11 refl)) (no-more !))))) (λ vb.
-          use1 W (later (some (λ (z : Book). (((‵ (flft κ′ q′) ⊛ ‵ ftrue)) ⊛ ‵ (T.the-row .own z (vb ∷ []))) ⊛ raw (ensured 𝓤 H A n.ended (n.clauses 𝓤 H A at-mem run) (κ′, tt) (h, (p, (op, (s, tt)))) tt z)))) (id⊢ 𝓤 _) $ await ! tt $ pick ! (λ zb.
+          owned ! T.the-row (Is T.the-row) (LL.makes T.the-type T′.the-plain 𝓤 H A) h _ was $ move ! (0 ∷ 22 ∷ 1 ∷ []) $ use3 W (raw (Nexts 𝓤 H A at-mem run .pre to-next)) (gives-next (LL.owed R.the-type R′.the-laws told _ isa .0 .1)) $
+          calls-at ! fm (Nexts 𝓤 H A at-mem run) known-next to-next (and-then ! (load ! (from ! (stop !)) (look ! 5 refl)) (and-then ! (load ! (from ! (stop !)) (look ! 15 refl)) (and-then ! (load ! (from ! (stop !)) (look ! 13 refl)) (and-then ! (load ! (from ! (fld ! refl (stop !))) (look-in ! 9 (sub ! 0 refl (whole !)))) (and-then ! (load ! (from ! (stop !)) (look ! 11 refl)) (no-more !)))))) (λ vb.
+          use1 W (later (some (λ (z : Book). (((‵ (flft κ′ q′) ⊛ ‵ ftrue)) ⊛ ‵ (T.the-row .own z (vb ∷ []))) ⊛ raw (ensured 𝓤 H A n.ended (n.clauses 𝓤 H A at-mem run) (κ′, tt) (h, (p, (op, (told .number, (s, tt))))) tt z)))) (id⊢ 𝓤 _) $ await ! tt $ pick ! (λ zb.
           split ! $ move ! (1 ∷ []) $ use1 W (raw (fact 𝓤 (zb ≡ after))) (said-next zb) $ heard ! (zb ≡ after) (λ eb. split ! $ move ! (1 ∷ []) $ rewrite ! 0 (λ (y : Book). ‵ (T.the-row .own y (vb ∷ []))) eb refl $
           peeks ! T.the-row (Is T.the-row) (shows 𝓤 H A T.the-row) after (vb ∷ []) (λ isb.
           -- [what the Book owns; the slice's token; the book's cell; the open borrow; obs; auth; the locals; ..]
@@ -191,4 +192,4 @@ credits-book-act-spec 𝓤 H 𝓜 𝓖 𝓡 =
     (tables 𝓤 H 𝓜 𝓡 code.env .C) (tables 𝓤 H 𝓜 𝓡 code.env .Λ) #self code.function (code.unfolded 𝓤 H 𝓜 𝓡)
     (meets 𝓤 H (𝓖 .A) (givenOf 𝓤 H 𝓜 𝓖) (𝓜 .mem) (𝓡 .run) (tablesOf 𝓤 H 𝓜 (tables 𝓤 H 𝓜 𝓡 code.env))
     (cited 𝓤 H (Answers 𝓤 H (𝓖 .A) (𝓜 .mem) (𝓡 .run)) 𝓜 𝓡 code.env #answer a-def.routine code.calls-steps·act-answer (a-thm.met 𝓤 H 𝓜 𝓖 𝓡))
-    (cited 𝓤 H (Nexts 𝓤 H (𝓖 .A) (𝓜 .mem) (𝓡 .run)) 𝓜 𝓡 code.env #book n-def.routine code.calls-steps·act-book (n-thm.met 𝓤 H 𝓜 𝓖 𝓡)))
+    (cited 𝓤 H (Nexts 𝓤 H (𝓖 .A) (𝓜 .mem) (𝓡 .run)) 𝓜 𝓡 code.env #book n-def.routine code.calls-steps·act-after (n-thm.met 𝓤 H 𝓜 𝓖 𝓡)))
