@@ -20,11 +20,11 @@ use Rattle.book.proofs.Tables.{every-at}
 
 -- ---- sums that may pass 128 bits
 
-fits : (n : ℕ) → ltb n limit ≡ true → checked n ≡ Some (halves n)
+pub fits : (n : ℕ) → ltb n limit ≡ true → checked n ≡ Some (halves n)
 unfolding checked
 fits n e = rw e
 
-passes : (n : ℕ) → limit ≤ n → checked n ≡ None
+pub passes : (n : ℕ) → limit ≤ n → checked n ≡ None
 unfolding checked
 passes n h = rw (le-ltb n limit h)
 

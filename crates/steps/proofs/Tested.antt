@@ -8,6 +8,7 @@ use lib.ListN.{getD, drop}
 use borrow.Author.Tests.{not-true, not-false}
 use Rattle.amount.specs.Numbers.{limit}
 use Rattle.amount.specs.declared.Amount.{Amount}
+use Rattle.amount.specs.declared.uint128.Checked.{Checked}
 use Rattle.sheet.specs.Fields.{Field, field, balance}
 use Rattle.profiles.specs.Readers.{amountIn}
 use Rattle.profiles.specs.Tests.{first, creates}
@@ -24,6 +25,8 @@ use Rattle.book.specs.declared.error.BookOutcome.{BookOutcome}
 use Rattle.book.specs.declared.error.BookOutcome.the-variants.{Accepted, Refused}
 use Rattle.book.proofs.Effects.{asked}
 use Rattle.book.proofs.Formed.{and-l, and-r}
+use Rattle.steps.specs.Totals.{more, inRange, soundTotal}
+use Rattle.steps.proofs.Sound.{sound-so, room-so}
 use Rattle.steps.proofs.Sums.{place-in, place-out, busy-by}
 
 -- ---- in their order
@@ -75,6 +78,9 @@ module _ (b : Book) (s : Step) (r : Bool) (h : r ≡ wellFormed b) where
   unfolding answer
   past-28 k = record { rest = rw (sym h ∙ not-false r k) }
 
+pub formed-by : (b : Book) (t : Checked) (r : Bool) → r ≡ inRange t → t ≡ soundTotal b → r ≡ wellFormed b
+formed-by b t r h e = h ∙ ap inRange e ∙ sound-so b
+
 -- ---- what they go by
 
 module _ (b : Book) (p : ℕ) where
@@ -120,8 +126,9 @@ module _ (b : Book) (p : ℕ) where
   unfolding balanceRules
   created-at i h x e = rw (place-closed b p h) (ap said e)
 
--- 25
-pub room-by : (b : Book) (name : ℕ) (i : List ℕ) (a : Amount) (r : BookOutcome) → a ≡ asked name i
-    → r ≡ refusedIf (leb limit (total b + credits a)) TooMuch → r ≡ refusedIf (leb limit (seen b .total + creditsIn name i)) TooMuch
+-- 25, by the code's total
+pub room-by : (b : Book) (name : ℕ) (i : List ℕ) (a : Amount) (t : Checked) (r : BookOutcome) → a ≡ asked name i → t ≡ soundTotal b → wellFormed b ≡ true
+    → r ≡ refusedIf (not (inRange (more t (credits a)))) TooMuch → r ≡ refusedIf (leb limit (seen b .total + creditsIn name i)) TooMuch
 unfolding seen creditsIn
-room-by b name i a r e h = h ∙ rw e
+room-by b name i a t r e f w h =
+    h ∙ ap (λ (s : Checked). refusedIf (not (inRange (more s (credits a)))) TooMuch) f ∙ room-so b (credits a) w ∙ rw e

@@ -50,7 +50,8 @@ fn is_act(operation: u8) -> bool
 pub fn act_outcome(book: Book, place: u8, operation: u8, input: &[u8]) -> BookOutcome
     ensures { λ r. ⌜ r ≡ answer book (Act place operation (now (input .entry))) ⌝ }
 {
-    if !soundness::well_formed(book) {
+    let total = soundness::sound_total(book);
+    if !totals::in_range(total) {
         return BookOutcome::Refused(BookError::BadBook);
     }
     if 15 < place {
@@ -77,7 +78,7 @@ pub fn act_outcome(book: Book, place: u8, operation: u8, input: &[u8]) -> BookOu
     }
     let a = reads::asked(input, sheet::AMOUNT);
     let n = a.mantissa;
-    totals::room(book, n)
+    totals::room(total, n)
 }
 
 // The book after it; a refused one leaves it as it was.
@@ -90,7 +91,7 @@ pub fn act_book(book: Book, place: u8, operation: u8, input: &[u8]) -> Book
     }
 }
 
-fn acted(book: Book, place: u8, operation: u8, input: &[u8]) -> Book
+pub fn acted(book: Book, place: u8, operation: u8, input: &[u8]) -> Book
     requires { ⌜ answer book (Act place operation (now input)) ≡ Accepted ⌝ }
     ensures { λ r. ⌜ r ≡ effect book (Act place operation (now (input .entry))) ⌝ }
 {

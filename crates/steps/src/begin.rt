@@ -94,7 +94,7 @@ pub fn begin_book(book: Book, from: u8, to: u8, transfer: u8, input: &[u8]) -> B
     }
 }
 
-fn begun(book: Book, from: u8, to: u8, transfer: u8, input: &[u8]) -> Book
+pub fn begun(book: Book, from: u8, to: u8, transfer: u8, input: &[u8]) -> Book
     requires { ⌜ answer book (Begin from to transfer (now input)) ≡ Accepted ⌝ }
     ensures { λ r. ⌜ r ≡ effect book (Begin from to transfer (now (input .entry))) ⌝ }
 {

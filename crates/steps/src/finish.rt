@@ -41,7 +41,7 @@ pub fn finish_book(book: Book, t: u8) -> Book
     }
 }
 
-fn finished(book: Book, t: u8) -> Book
+pub fn finished(book: Book, t: u8) -> Book
     requires { ⌜ answer book (Finish t) ≡ Accepted ⌝ }
     ensures { λ r. ⌜ r ≡ effect book (Finish t) ⌝ }
 {

@@ -1,10 +1,12 @@
-use Rattle.steps.proofs.Tested.{Past, past-28, bad-book, pass, stop, last, done, Here, place-there, checked-at, room-by}
+use Rattle.steps.proofs.Tested.{Past, past-28, bad-book, formed-by, pass, stop, last, done, Here, place-there, checked-at, room-by}
 use Rattle.sheet.specs.Fields.{field, amount}
+use Rattle.book.specs.Book.{wellFormed}
 use Rattle.book.specs.Steps.{Act, testsAct, said, seen, checkAt}
 use Rattle.book.specs.Book.{placeRecord}
 use borrow.Author.Tests.{not-true, not-false, le-leb, lt-leb}
 use native.Mathlib.Omega.{arith}
 use Prim.Native.Nat.{ℕ}
+use mathlib.Core.Bool.{true}
 use mathlib.Core.Path.{_≡_, refl, sym, ap, _∙_}
 use borrow.Author.Needs.{needs}
 use Rattle.steps.proofs.act.act_outcome.Statement.{statement}
@@ -16,7 +18,7 @@ abbrev Left : tie.Start → ℕ → Type 0
 Left c n = Past (c .args .t1) (Act (c .args .place) (c .args .operation) (c .args .input .now)) n
 
 abbrev start-1 : tie.Else1 → tie.Start
-start-1 c = c .before .before .before
+start-1 c = c .before .before .before .before
 
 abbrev start-2 : tie.Else2 → tie.Start
 start-2 c = start-1 (c .before)
@@ -33,8 +35,14 @@ start-5 c = start-4 (c .before .before)
 abbrev start-6 : tie.After-enum-told2 → tie.Start
 start-6 c = start-5 (c .before .before .before .before .before)
 
+tested : (c : tie.After-in-range) → c .in-range .result ≡ wellFormed (c .before .before .before .args .t1)
+tested c = formed-by _ _ _ (c .in-range .ensures) (c .before .sound-total .ensures)
+
+sound : (c : tie.Else1) → wellFormed (start-1 c .args .t1) ≡ true
+sound c = sym (tested (c .before)) ∙ not-false _ (c .if1 .left)
+
 past-1 : (c : tie.Else1) → Left (start-1 c) 1
-past-1 c = past-28 _ _ _ (c .before .well-formed .ensures) (c .if1 .left)
+past-1 c = past-28 _ _ _ (tested (c .before)) (c .if1 .left)
 
 past-2 : (c : tie.Else2) → Left (start-2 c) 2
 unfolding testsAct
@@ -70,11 +78,14 @@ past-6 c = pass (past-5 (c .before .before .before .before .before)) (sym (check
 
 -- ---- the needs
 
-well-formed-requires : tie.Need-well-formed-requires
-well-formed-requires c κs = search needs
+sound-total-requires : tie.Need-sound-total-requires
+sound-total-requires c κs = search needs
+
+in-range-requires : tie.Need-in-range-requires
+in-range-requires c κs = search needs
 
 returns : tie.Need-returns
-returns c = bad-book _ _ _ (c .before .well-formed .ensures) (c .if1 .taken)
+returns c = bad-book _ _ _ (tested (c .before)) (c .if1 .taken)
 
 returns-2 : tie.Need-returns-2
 unfolding testsAct
@@ -148,13 +159,14 @@ returns-8 c =
     let x = start-6 (c .before .before .before .before .before) .args in
     last (past-6 (c .before .before .before .before .before)) _ refl
     (rw (sym (c .before .before .before .before .is-adding .ensures) ∙ not-false _ (c .before .before .before .if5 .left))
-    (room-by (x .t1) amount (x .input .now) _ _ (c .before .before .asked .ensures) (c .room .ensures)))
+    (room-by (x .t1) amount (x .input .now) _ _ _ (c .before .before .asked .ensures) (c .before .before .before .before .before .before .before .before .before .before .before .before .before .before .before .before .before .before .before .before .sound-total .ensures) (sound (c .before .before .before .before .before .before .before .before .before .before .before .before .before .before .before .before .before .before)) (c .room .ensures)))
 
 pub act-outcome-spec : {M : Type 1} → statement M
 act-outcome-spec =
     tie.close
     (tie.spec
-    well-formed-requires
+    sound-total-requires
+    in-range-requires
     returns
     returns-2
     has16-requires

@@ -1,4 +1,4 @@
-use Rattle.steps.proofs.Tested.{Past, past-28, bad-book, pass, stop, last, place-there, created-at, room-by}
+use Rattle.steps.proofs.Tested.{Past, past-28, bad-book, formed-by, pass, stop, last, place-there, created-at, room-by}
 use Rattle.steps.proofs.Carried.{unit-short}
 use Rattle.sheet.specs.Fields.{field, unit, balance}
 use Rattle.book.specs.Sets.{has}
@@ -22,7 +22,7 @@ abbrev Left : tie.Start → ℕ → Type 0
 Left c n = Past (c .args .book) (Open (c .args .place) (c .args .input .now)) n
 
 abbrev start-1 : tie.Else1 → tie.Start
-start-1 c = c .before .before .before
+start-1 c = c .before .before .before .before
 
 abbrev start-2 : tie.Else2 → tie.Start
 start-2 c = start-1 (c .before)
@@ -42,11 +42,14 @@ start-6 c = start-5 (c .before .before .before .before .before)
 abbrev start-7 : tie.Else5 → tie.Start
 start-7 c = start-6 (c .before .before)
 
+tested : (c : tie.After-in-range) → c .in-range .result ≡ wellFormed (c .before .before .before .args .book)
+tested c = formed-by _ _ _ (c .in-range .ensures) (c .before .sound-total .ensures)
+
 sound : (c : tie.Else1) → wellFormed (start-1 c .args .book) ≡ true
-sound c = sym (c .before .well-formed .ensures) ∙ not-false _ (c .if1 .left)
+sound c = sym (tested (c .before)) ∙ not-false _ (c .if1 .left)
 
 past-1 : (c : tie.Else1) → Left (start-1 c) 1
-past-1 c = past-28 _ _ _ (c .before .well-formed .ensures) (c .if1 .left)
+past-1 c = past-28 _ _ _ (tested (c .before)) (c .if1 .left)
 
 past-2 : (c : tie.Else2) → Left (start-2 c) 2
 unfolding testsOpen
@@ -92,11 +95,14 @@ past-7 c = pass (past-6 (c .before .before)) (rw (ap (λ (l : List ℕ). ltb 32 
 
 -- ---- the needs
 
-well-formed-requires : tie.Need-well-formed-requires
-well-formed-requires c κs = search needs
+sound-total-requires : tie.Need-sound-total-requires
+sound-total-requires c κs = search needs
+
+in-range-requires : tie.Need-in-range-requires
+in-range-requires c κs = search needs
 
 returns : tie.Need-returns
-returns c = bad-book _ _ _ (c .before .well-formed .ensures) (c .if1 .taken)
+returns c = bad-book _ _ _ (tested (c .before)) (c .if1 .taken)
 
 returns-2 : tie.Need-returns-2
 unfolding testsOpen
@@ -168,13 +174,14 @@ returns-8 : tie.Need-returns-8
 unfolding testsOpen
 returns-8 c =
     let x = start-7 (c .before .before .before) .args in
-    last (past-7 (c .before .before .before)) _ refl (room-by (x .book) balance (x .input .now) _ _ (c .before .before .asked .ensures) (c .room .ensures))
+    last (past-7 (c .before .before .before)) _ refl (room-by (x .book) balance (x .input .now) _ _ _ (c .before .before .asked .ensures) (c .before .before .before .before .before .before .before .before .before .before .before .before .before .before .before .before .before .before .before .before .before .sound-total .ensures) (sound (c .before .before .before .before .before .before .before .before .before .before .before .before .before .before .before .before .before .before .before)) (c .room .ensures))
 
 pub open-outcome-spec : {M : Type 1} → statement M
 open-outcome-spec =
     tie.close
     (tie.spec
-    well-formed-requires
+    sound-total-requires
+    in-range-requires
     returns
     returns-2
     has16-requires

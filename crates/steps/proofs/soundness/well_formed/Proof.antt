@@ -1,117 +1,16 @@
-use Rattle.steps.proofs.Sums.{fits-so, passes-so}
-use Rattle.book.specs.Sets.{every}
-use Rattle.book.specs.Book.{placeRecord, transferRecord, placeAt, total, nameOk, placeOk, wellFormed}
-use Rattle.book.specs.declared.Book.{Book}
-use Rattle.amount.specs.Numbers.{limit}
-use lib.Dec.{eqb, ltb}
-use borrow.Author.Tests.{not-true, not-false, lt-ltb, le-ltb}
-use mathlib.Core.Bool.{Bool, true, _&&_}
-use mathlib.Core.Path.{_≡_, sym, _∙_}
+use Rattle.steps.proofs.Tested.{formed-by}
 use borrow.Author.Needs.{needs}
 use Rattle.steps.proofs.soundness.well_formed.Statement.{statement}
 use Rattle.steps.proofs.soundness.well_formed.Tie as tie
 
--- ---- the first parts of test 28, passed each at its place
+sound-total-requires : tie.Need-sound-total-requires
+sound-total-requires c κs = search needs
 
-abbrev part-1 : Book → Bool
-part-1 b = ltb (total b) limit
-
-abbrev part-2 : Book → Bool
-part-2 b = part-1 b && nameOk (b .unit)
-
-abbrev part-3 : Book → Bool
-part-3 b = part-2 b && every (λ p. placeOk (placeAt b p)) 16
-
-abbrev part-4 : Book → Bool
-part-4 b = part-3 b && every (λ p. eqb (placeRecord b p .balance .scale) 0) 16
-
-abbrev part-5 : Book → Bool
-part-5 b = part-4 b && every (λ t. eqb (transferRecord b t .amount .scale) 0) 8
-
-past-1 : (c : tie.After-enum-told2) → part-1 (c .before .before .before .args .book) ≡ true
-past-1 c =
-    let b = c .before .before .before .args .book in
-    lt-ltb (total b) limit (fits-so (total b) _ _ (c .before .before .book-total .ensures) (c .enum-told2 .given .1) .0)
-
-past-2 : (c : tie.Else1) → part-2 (c .before .before .before .before .before .before .args .book) ≡ true
-past-2 c = rw (past-1 (c .before .before .before)) (sym (c .before .name-ok .ensures) ∙ not-false _ (c .if1 .left))
-
-past-3 : (c : tie.Else2) → part-3 (c .before .before .before .before .before .before .before .before .args .book) ≡ true
-past-3 c = rw (past-2 (c .before .before)) (sym (c .before .subjects-ok .ensures) ∙ not-false _ (c .if2 .left))
-
-past-4 : (c : tie.Else3) → part-4 (c .before .before .before .before .before .before .before .before .before .before .args .book) ≡ true
-past-4 c = rw (past-3 (c .before .before)) (sym (c .before .places-whole .ensures) ∙ not-false _ (c .if3 .left))
-
-past-5 : (c : tie.Else4) → part-5 (c .before .before .before .before .before .before .before .before .before .before .before .before .args .book) ≡ true
-past-5 c = rw (past-4 (c .before .before)) (sym (c .before .transfers-whole .ensures) ∙ not-false _ (c .if4 .left))
-
--- ---- the needs
-
-book-total-requires : tie.Need-book-total-requires
-book-total-requires c κs = search needs
-
-enum-told : tie.Need-enum-told
-enum-told c = search needs
+in-range-requires : tie.Need-in-range-requires
+in-range-requires c κs = search needs
 
 returns : tie.Need-returns
-unfolding wellFormed
-returns c =
-    let b = c .before .before .before .args .book in
-    rw (le-ltb (total b) limit (passes-so (total b) _ (c .before .before .book-total .ensures) (c .enum-told .given .1)))
-
-enum-told-2 : tie.Need-enum-told-2
-enum-told-2 c = search needs
-
-name-ok-requires : tie.Need-name-ok-requires
-name-ok-requires c κs = search needs
-
-returns-2 : tie.Need-returns-2
-unfolding wellFormed
-returns-2 c = rw (past-1 (c .before .before .before), sym (c .before .name-ok .ensures) ∙ not-true _ (c .if1 .taken))
-
-subjects-ok-requires : tie.Need-subjects-ok-requires
-subjects-ok-requires c κs = search needs
-
-returns-3 : tie.Need-returns-3
-unfolding wellFormed
-returns-3 c = rw (past-2 (c .before .before), sym (c .before .subjects-ok .ensures) ∙ not-true _ (c .if2 .taken))
-
-places-whole-requires : tie.Need-places-whole-requires
-places-whole-requires c κs = search needs
-
-returns-4 : tie.Need-returns-4
-unfolding wellFormed
-returns-4 c = rw (past-3 (c .before .before), sym (c .before .places-whole .ensures) ∙ not-true _ (c .if3 .taken))
-
-transfers-whole-requires : tie.Need-transfers-whole-requires
-transfers-whole-requires c κs = search needs
-
-returns-5 : tie.Need-returns-5
-unfolding wellFormed
-returns-5 c = rw (past-4 (c .before .before), sym (c .before .transfers-whole .ensures) ∙ not-true _ (c .if4 .taken))
-
-transfers-ok-requires : tie.Need-transfers-ok-requires
-transfers-ok-requires c κs = search needs
-
-returns-6 : tie.Need-returns-6
-unfolding wellFormed
-returns-6 c = rw (past-5 (c .before)) (c .transfers-ok .ensures)
+returns c = formed-by _ _ _ (c .in-range .ensures) (c .before .sound-total .ensures)
 
 pub well-formed-spec : {M : Type 1} → statement M
-well-formed-spec =
-    tie.close
-    (tie.spec
-    book-total-requires
-    enum-told
-    returns
-    enum-told-2
-    name-ok-requires
-    returns-2
-    subjects-ok-requires
-    returns-3
-    places-whole-requires
-    returns-4
-    transfers-whole-requires
-    returns-5
-    transfers-ok-requires
-    returns-6)
+well-formed-spec = tie.close (tie.spec sound-total-requires in-range-requires returns)
