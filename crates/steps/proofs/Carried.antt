@@ -14,7 +14,7 @@ use Rattle.amount.specs.declared.AmountResult.{AmountResult}
 use Rattle.amount.specs.declared.Given.{Given}
 use Rattle.sheet.specs.Fields.{subject, amount}
 use Rattle.book.specs.Sets.{has}
-use Rattle.book.specs.Book.{placeRecord, transferRecord, placeAt, isSome, credits, total, nameOk, wellFormed, setCredits, setTransfer}
+use Rattle.book.specs.Book.{placeRecord, transferRecord, placeAt, isSome, credits, total, nameOk, wellFormed, blankTransfer, setCredits, setTransfer}
 use Rattle.book.specs.Steps.{Step, Open, Act, Begin, Finish, creditsIn, bytesIn, adds, seen, answer, after, effect, next, heldAt}
 use Rattle.book.specs.declared.Book.{Book}
 use Rattle.book.specs.declared.error.BookError.{BookError}
@@ -61,6 +61,12 @@ module _ (b : Book) (t : ℕ) (h : answer b (Finish t) ≡ Accepted) where
     unfolding seen total
     finish-fits =
         omega (arith, sound .fits, held-part b sound (transferRecord b t .to) finish-to to-here, load-part b sound t (facts .low) (facts .moving))
+
+-- what the code stores: the destination is credited, and the number is free
+pub finish-done : (b : Book) (t : ℕ) (paid : Book)
+    → paid ≡ setCredits b (transferRecord b t .to) (heldAt b (transferRecord b t .to) + credits (transferRecord b t .amount))
+    → setTransfer paid t 0 blankTransfer ≡ effect b (Finish t)
+finish-done b t paid e = rw e
 
 -- ---- act
 

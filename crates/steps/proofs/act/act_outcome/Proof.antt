@@ -12,7 +12,7 @@ use borrow.Author.Needs.{needs}
 use Rattle.steps.proofs.act.act_outcome.Statement.{statement}
 use Rattle.steps.proofs.act.act_outcome.Tie as tie
 
--- ---- the tests passed, each at its place
+-- ---- the tests passed, each at its place: 28, 22, 6, 2, 4, the check
 
 abbrev Left : tie.Start → ℕ → Type 0
 Left c n = Past (c .args .t1) (Act (c .args .place) (c .args .operation) (c .args .input .now)) n
@@ -69,7 +69,8 @@ checks : (c : tie.After-check-at) → let x = start-5 (c .before .before .before
 unfolding placeRecord
 checks c =
     let x = start-5 (c .before .before .before) .args in
-    checked-at (x .t1) (x .place) (x .operation) (field (x .input .now)) (here (c .before .before .before .before .before .before .before .before)) _ (c .check-at .ensures)
+    checked-at (x .t1) (x .place) (x .operation) (field (x .input .now))
+    (here (c .before .before .before .before .before .before .before .before)) _ (c .check-at .ensures)
 
 past-6 : (c : tie.After-enum-told2) → Left (start-6 c) 6
 unfolding testsAct

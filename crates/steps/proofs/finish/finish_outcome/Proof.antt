@@ -8,7 +8,7 @@ use borrow.Author.Needs.{needs}
 use Rattle.steps.proofs.finish.finish_outcome.Statement.{statement}
 use Rattle.steps.proofs.finish.finish_outcome.Tie as tie
 
--- ---- the tests passed, each at its place
+-- ---- the tests passed, each at its place: 28, 22
 
 abbrev Left : tie.Start → ℕ → Type 0
 Left c n = Past (c .args .book) (Finish (c .args .t)) n

@@ -1,6 +1,7 @@
-use Rattle.steps.proofs.Carried.{finish-low, finish-to, finish-fits}
+use Rattle.steps.proofs.Carried.{finish-low, finish-to, finish-fits, finish-done}
+use Rattle.book.specs.declared.Book.{Book}
 use Rattle.book.specs.declared.Place.{Place}
-use Rattle.book.specs.Book.{setPlaces, setCredits, setTransfer, blankTransfer, placeRecord, transferRecord}
+use Rattle.book.specs.Book.{setPlaces, setCredits, placeRecord, transferRecord}
 use lib.ListN.{set}
 use native.Mathlib.Omega.{arith}
 use mathlib.Core.Path.{ap, _∙_}
@@ -42,8 +43,8 @@ returns : tie.Need-returns
 unfolding transferRecord placeRecord setCredits
 returns c =
     let x = c .before .before .before .before .before .before .args in
-    c .freed .ensures
-    ∙ ap (λ (y : Place). setTransfer (setPlaces (x .t1) (set (x .t1 .places) (transferRecord (x .t1) (x .t) .to) y)) (x .t) 0 blankTransfer) (c .before .credited .ensures)
+    let put : Place → Book = λ y. setPlaces (x .t1) (set (x .t1 .places) (transferRecord (x .t1) (x .t) .to) y) in
+    c .freed .ensures ∙ finish-done (x .t1) (x .t) _ (ap put (c .before .credited .ensures))
 
 pub finished-spec : {M : Type 1} → statement M
 finished-spec =

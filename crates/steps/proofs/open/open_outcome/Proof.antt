@@ -16,7 +16,7 @@ use borrow.Author.Needs.{needs}
 use Rattle.steps.proofs.open.open_outcome.Statement.{statement}
 use Rattle.steps.proofs.open.open_outcome.Tie as tie
 
--- ---- the tests passed, each at its place
+-- ---- the tests passed, each at its place: 28, 22, 5, 2, create's check, 26, 27
 
 abbrev Left : tie.Start → ℕ → Type 0
 Left c n = Past (c .args .book) (Open (c .args .place) (c .args .input .now)) n
