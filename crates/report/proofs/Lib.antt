@@ -1,0 +1,4 @@
+-- The laws of the definitions, and the theorems that docs/PROOFS.md names.
+pub mod Putting
+pub mod Digits
+pub mod Lines
