@@ -14,7 +14,7 @@ use Rattle.profiles.specs.Readers.{amountIn}
 use Rattle.profiles.specs.Balance.{balanceRules}
 use Rattle.places.specs.Places.{putField}
 use Rattle.book.specs.Book.{wholeAmount, nameBytes, placeRecord, placeAt, transferAt, loadOf, total, isSome, setBalance, setCredits, setTransfer}
-use Rattle.book.specs.Steps.{Begin, creditsIn, seen, testsBegin, firstRefusal, heldAt}
+use Rattle.book.specs.Steps.{Begin, creditsIn, seen, testsBegin, firstRefusal, heldAt, lessened}
 use Rattle.book.specs.Plain.{Plain, worth, plainCredits, plainSeen, plainAnswer}
 use Rattle.book.specs.Claim.{route, cellAt}
 use Rattle.book.specs.declared.Transfer.{Transfer}
@@ -141,14 +141,14 @@ keptBegin b l f g t i d fate v z =
     there-g = plain-is v g (k .low-to) here-g
 
     b₁ : Book
-    b₁ = setCredits b f (heldAt b f - n)
+    b₁ = setCredits b f (lessened (heldAt b f) n)
 
-    both : SetBoth d b l f (heldAt b f - n) (worth (l f) - n)
+    both : SetBoth d b l f (lessened (heldAt b f) n) (worth (l f) - n)
     both =
-        set-both v f (k .low-from) here-f (heldAt b f - n) (worth (l f) - n) (omega (arith, enough, ap worth there-f)) (omega (arith, enough, v .fits))
+        set-both v f (k .low-from) here-f (lessened (heldAt b f) n) (worth (l f) - n) (omega (arith, enough, ap worth there-f)) (omega (arith, enough, v .fits))
 
-    e₁ : PlaceSet b b₁ f (some (setBalance (placeRecord b f) (wholeAmount (heldAt b f - n))))
-    e₁ = credits-set b f (heldAt b f - n) (v .good .shape) (k .low-from) here-f
+    e₁ : PlaceSet b b₁ f (some (setBalance (placeRecord b f) (wholeAmount (lessened (heldAt b f) n))))
+    e₁ = credits-set b f (lessened (heldAt b f) n) (v .good .shape) (k .low-from) here-f
 
     stays : (q : ℕ) → isSome (placeAt b q) ≡ true → isSome (placeAt b₁ q) ≡ true
     stays q h = altered-all (λ j o. isSome o ≡ true) (e₁ .places) refl q (λ x. h)

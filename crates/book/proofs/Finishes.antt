@@ -9,7 +9,7 @@ use lib.Dec.{eqb}
 use Rattle.amount.proofs.Halves.{val-halves}
 use Rattle.book.specs.Sets.{bit}
 use Rattle.book.specs.Book.{credits, wholeAmount, nameBytes, blankTransfer, placeRecord, transferRecord, placeAt, transferAt, balanceOf, loadOf, total, isSome, setBalance, setCredits, setTransfer}
-use Rattle.book.specs.Steps.{Finish, seen, testsFinish, firstRefusal, heldAt, answer}
+use Rattle.book.specs.Steps.{Finish, seen, testsFinish, firstRefusal, heldAt, raised, answer}
 use Rattle.book.specs.Plain.{Plain, plainAnswer}
 use Rattle.book.specs.Claim.{route, shown, cellAt}
 use Rattle.book.specs.declared.Transfer.{Transfer}
@@ -26,7 +26,7 @@ module _ (b : Book) (l : Plain) (t : ℕ) (d d′ : ℕ → Bool) (k : Bool) (fa
   ended : Book
   ended =
       let r = transferRecord b t in
-      setTransfer (setCredits b (home k r) (heldAt b (home k r) + credits (r .amount))) t 0 blankTransfer
+      setTransfer (setCredits b (home k r) (raised (heldAt b (home k r)) (credits (r .amount)))) t 0 blankTransfer
 
   record Ended : Type 0 where
     inv : Inv d′ ended l
@@ -69,13 +69,13 @@ module _ (b : Book) (l : Plain) (t : ℕ) (d d′ : ℕ → Bool) (k : Bool) (fa
       low = open-lt b (v .good .shape .opened) g here
 
       m : Book
-      m = setCredits b g (heldAt b g + n)
+      m = setCredits b g (raised (heldAt b g) n)
 
       c : Book
       c = setTransfer m t 0 blankTransfer
 
-      e₁ : PlaceSet b m g (some (setBalance (placeRecord b g) (wholeAmount (heldAt b g + n))))
-      e₁ = credits-set b g (heldAt b g + n) (v .good .shape) low here
+      e₁ : PlaceSet b m g (some (setBalance (placeRecord b g) (wholeAmount (raised (heldAt b g) n))))
+      e₁ = credits-set b g (raised (heldAt b g) n) (v .good .shape) low here
 
       e₂ : TransferSet m c t none
       e₂ = transfer-gone m t (e₁ .shape) small
@@ -85,7 +85,7 @@ module _ (b : Book) (l : Plain) (t : ℕ) (d d′ : ℕ → Bool) (k : Bool) (fa
 
       same : total c ≡ total b
       same =
-          omega (arith, total-place e₁ low, ap balanceOf (place-is v g low here), val-halves (heldAt b g + n), total-transfer e₂ small, ap loadOf was)
+          omega (arith, total-place e₁ low, ap balanceOf (place-is v g low here), val-halves (raised (heldAt b g) n), total-transfer e₂ small, ap loadOf was)
 
       coming-was : (q : ℕ) → coming d′ c q + toward k q (some r) ≡ coming d b q
       coming-was q =
@@ -101,10 +101,10 @@ module _ (b : Book) (l : Plain) (t : ℕ) (d d′ : ℕ → Bool) (k : Bool) (fa
       landed : (q : ℕ) → q < 16 → l q ≡ credited (coming d′ c q) (cellAt c q)
       landed q z = rw (e₂ .places q) (altered-all (λ i o. l i ≡ credited (coming d′ c i) (shown o)) (e₁ .places) at-g q off)
         where
-          at-g : l g ≡ credited (coming d′ c g) (shown (some (setBalance (placeRecord b g) (wholeAmount (heldAt b g + n)))))
+          at-g : l g ≡ credited (coming d′ c g) (shown (some (setBalance (placeRecord b g) (wholeAmount (raised (heldAt b g) n)))))
           at-g =
               plain-is v g low here
-              ∙ ap (holding (nameBytes (placeRecord b g .subject))) (omega (arith, coming-was g, toward-hit k g r refl, val-halves (heldAt b g + n)))
+              ∙ ap (holding (nameBytes (placeRecord b g .subject))) (omega (arith, coming-was g, toward-hit k g r refl, val-halves (raised (heldAt b g) n)))
 
           off : q ≢ g → l q ≡ credited (coming d′ c q) (cellAt b q)
           off x =

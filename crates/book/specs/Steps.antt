@@ -163,17 +163,24 @@ answer b s = firstRefusal (refusedIf (not (wellFormed b)) BadBook ∷ testsOf (s
 abbrev pub heldAt : Book → ℕ → ℕ
 heldAt b p = credits (placeRecord b p .balance)
 
+-- begin leaves this at the source, and finish makes this of what the destination holds
+abbrev pub lessened : ℕ → ℕ → ℕ
+lessened held v = held - v
+
+abbrev pub raised : ℕ → ℕ → ℕ
+raised held v = held + v
+
 -- THE EFFECT of an accepted step
 abbrev pub effect : Book → Step → Book
 effect b (Open p i) =
     openPlace b p (setBalance (setSubject blankPlace (nameOf (bytesIn subject i))) (wholeAmount (creditsIn balance i)))
 effect b (Act p o i) = setCredits b p (changed o (heldAt b p) (creditsIn amount i))
 effect b (Begin f g t i) =
-    setTransfer (setCredits b f (heldAt b f - creditsIn amount i)) t 1
+    setTransfer (setCredits b f (lessened (heldAt b f) (creditsIn amount i))) t 1
     (record { from = f; to = g; amount = wholeAmount (creditsIn amount i) })
 effect b (Finish t) =
     let r = transferRecord b t in
-    setTransfer (setCredits b (r .to) (heldAt b (r .to) + credits (r .amount))) t 0 blankTransfer
+    setTransfer (setCredits b (r .to) (raised (heldAt b (r .to)) (credits (r .amount)))) t 0 blankTransfer
 
 -- a refused step changes nothing
 abbrev pub after : {A : Type 0} → BookOutcome → A → A → A

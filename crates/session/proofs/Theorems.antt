@@ -15,7 +15,6 @@ use Rattle.book.specs.Book.{blankBook, total, wellFormed}
 use Rattle.book.specs.Refusals.{answerOf}
 use Rattle.book.specs.Steps.{Step, answer, startAnswer, startBook}
 use Rattle.book.specs.Claim.{run, acceptedOf, issued, taken, Sound, Demand3}
-use Rattle.book.specs.declared.Book.{Book}
 use Rattle.book.specs.declared.error.BookOutcome.{BookOutcome}
 use Rattle.book.specs.declared.error.BookOutcome.the-variants.{Accepted, Refused}
 use Rattle.book.proofs.Formed.{formed}

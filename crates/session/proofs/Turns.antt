@@ -10,39 +10,40 @@ use Rattle.book.specs.Refusals.{answerOf}
 use Rattle.book.specs.Steps.{Step, Finish, answer, next, startBook}
 use Rattle.book.specs.Claim.{run}
 use Rattle.book.specs.declared.Book.{Book}
-use Rattle.session.specs.Session.{count, unitOf, stepAt, stepsFrom, stepsOf, brief, answersFrom, answersOf, bookOf, noAnswer, filled, goodRun}
+use Rattle.book.specs.declared.error.BookOutcome.{BookOutcome}
+use Rattle.session.specs.Session.{count, lineAt, bodyOf, unitOf, stepOf, stepAt, stepsFrom, stepsOf, brief, answersFrom, answersOf, bookOf, noAnswer, filled, goodRun}
+use Rattle.session.specs.declared.Line.{Line}
 use Rattle.session.specs.declared.StepAnswer.{StepAnswer}
-use Rattle.session.specs.declared.Run.{Run}
 
 -- ---- lists of steps
 
 -- what the logic reads past the last step; no claim turns on it
-abbrev pub noStep : Step
+abbrev noStep : Step
 noStep = Finish 0
 
-pub steps-length : (s : List ℕ) (m k : ℕ) → length (stepsFrom s k m) ≡ m
+steps-length : (s : List ℕ) (m k : ℕ) → length (stepsFrom s k m) ≡ m
 unfolding stepsFrom
 steps-length s zero k = refl
 steps-length s (suc m) k = ap suc (steps-length s m (suc k))
 
-pub step-at : (s : List ℕ) (m k j : ℕ) → j < m → getD (stepsFrom s k m) j noStep ≡ stepAt s (k + j)
+step-at : (s : List ℕ) (m k j : ℕ) → j < m → getD (stepsFrom s k m) j noStep ≡ stepAt s (k + j)
 unfolding stepsFrom
 step-at s zero k j h = absurd (not-suc-le-zero h)
 step-at s (suc m) k zero h = ap (stepAt s) (omega arith)
 step-at s (suc m) k (suc j) h = step-at s m (suc k) j (le-of-suc-le-suc h) ∙ ap (stepAt s) (omega arith)
 
-pub answers-length : (ss : List Step) (b : Book) → length (answersFrom b ss) ≡ length ss
+answers-length : (ss : List Step) (b : Book) → length (answersFrom b ss) ≡ length ss
 answers-length [] b = refl
 answers-length (x ∷ ss) b = ap suc (answers-length ss (next b x))
 
 -- one step more
-pub run-next : (ss : List Step) (b : Book) (j : ℕ) → j < length ss → run b (take (suc j) ss) ≡ next (run b (take j ss)) (getD ss j noStep)
+run-next : (ss : List Step) (b : Book) (j : ℕ) → j < length ss → run b (take (suc j) ss) ≡ next (run b (take j ss)) (getD ss j noStep)
 run-next [] b j h = absurd (not-suc-le-zero h)
 run-next (x ∷ ss) b zero h = refl
 run-next (x ∷ ss) b (suc j) h = run-next ss (next b x) j (le-of-suc-le-suc h)
 
 -- each answer is its step's, on the book as the ones before left it
-pub answer-at : (ss : List Step) (b : Book) (j : ℕ) → j < length ss
+answer-at : (ss : List Step) (b : Book) (j : ℕ) → j < length ss
     → getD (answersFrom b ss) j noAnswer ≡ brief (answerOf (answer (run b (take j ss)) (getD ss j noStep)))
 answer-at [] b j h = absurd (not-suc-le-zero h)
 answer-at (x ∷ ss) b zero h = refl
@@ -81,7 +82,7 @@ module _ (s : List ℕ) where
     unfolding stepsOf
     step-of = step-at s (count s - 1) 1 j h ∙ ap (stepAt s) (omega arith)
 
-    pub book-next : run (startBook (unitOf s)) (take (j + 1) (stepsOf s)) ≡ next (run (startBook (unitOf s)) (take j (stepsOf s))) (stepAt s (j + 1))
+    book-next : run (startBook (unitOf s)) (take (j + 1) (stepsOf s)) ≡ next (run (startBook (unitOf s)) (take j (stepsOf s))) (stepAt s (j + 1))
     book-next =
         let i : j + 1 ≡ suc j = omega arith in
         rw i (run-next (stepsOf s) (startBook (unitOf s)) j (omega (arith, count-steps)) ∙ rw (step-of, i))
@@ -91,9 +92,13 @@ module _ (s : List ℕ) where
     answer-of = answer-at (stepsOf s) (startBook (unitOf s)) j (omega (arith, count-steps)) ∙ rw step-of
 
   module _ (b : Book) (l : List StepAnswer) (j : ℕ) (r : Ran s b l j) where
-    pub ran-next : (c : Book) (x : StepAnswer) → j < count s - 1 → count s ≤ 256
-        → c ≡ next b (stepAt s (j + 1)) → x ≡ brief (answerOf (answer b (stepAt s (j + 1)))) → Ran s c (set l j x) (j + 1)
-    ran-next c x h few p q =
+    -- one turn: the entry and its body are read, the step is asked, then done
+    pub ran-next : (t : Line) (x : StepAnswer) (c : Book) {d e : List ℕ} {o : BookOutcome}
+        → t ≡ lineAt s (j + 1) → d ≡ bodyOf s t → o ≡ answer b (stepOf t d) → x ≡ brief (answerOf o) → e ≡ bodyOf s t → c ≡ next b (stepOf t e)
+        → j < count s - 1 → count s ≤ 256 → Ran s c (set l j x) (j + 1)
+    ran-next t x c t-is d-is o-is x-of e-is c-is h few =
+        let p : c ≡ next b (stepAt s (j + 1)) = c-is ∙ rw (e-is, t-is) in
+        let q : x ≡ brief (answerOf (answer b (stepAt s (j + 1)))) = x-of ∙ rw (o-is, d-is, t-is) in
         let e : 255 - j ≡ suc (255 - suc j) = omega arith in
         let i : j + 1 ≡ suc j = omega arith in
         let l-is : l ≡ take j (answersOf s) ++ replicate (suc (255 - suc j)) noAnswer = r .answers ∙ rw e in
@@ -107,10 +112,11 @@ module _ (s : List ℕ) where
               ∙ rw i;
         }
 
-    pub ran-all : count s - 1 ≤ j → j ≤ count s - 1 → record { number = 0; count = j; steps = l; book = b } ≡ goodRun s
+    pub ran-all : (n : ℕ) → n + 1 ≡ count s → j ≡ n → record { number = 0; count = n; steps = l; book = b } ≡ goodRun s
     unfolding goodRun filled bookOf
-    ran-all h k =
+    ran-all n h k =
         let e : j ≡ length (answersOf s) = omega (arith, count-answers) in
+        let m : n ≡ length (answersOf s) = omega (arith, count-answers) in
         let p : b ≡ run (startBook (unitOf s)) (stepsOf s) = r .book ∙ rw (take-all j (stepsOf s) (omega (arith, count-steps))) in
         let q : l ≡ answersOf s ++ replicate (255 - length (answersOf s)) noAnswer = r .answers ∙ rw (e, take-length (answersOf s)) in
-        rw (p, q, e)
+        rw (p, q, m)

@@ -1,15 +1,16 @@
 -- The walk over a session's table: what holds of the running place after k entries that fit, and the verdict at its end.
 use mathlib.Core.Path.{_≡_, refl, ap, _∙_}
-use mathlib.Core.Bool.{true, false, _&&_}
+use mathlib.Core.Bool.{Bool, true, false, _&&_}
 use mathlib.Core.List.{List}
 use Prim.Native.Nat.{ℕ, _+_, _*_, _≤_, _<_}
 use native.Mathlib.Omega.{arith}
 use lib.ListN.{length}
-use lib.Dec.{eqb}
-use borrow.Author.Tests.{le-leb, lt-leb}
+use lib.Dec.{eqb, leb}
+use borrow.Author.Tests.{le-leb, lt-leb, leb-true}
 use Rattle.sheet.specs.Walk.{allTo, sumTo}
-use Rattle.sheet.proofs.Tables.{all-step, all-stays, sum-step}
-use Rattle.session.specs.Session.{count, lineAt, bodyAt, lineFits, fitsAt, sound}
+use Rattle.sheet.proofs.Tables.{and-left, and-right, all-step, all-stays, sum-step}
+use Rattle.book.specs.Steps.{startAnswer}
+use Rattle.session.specs.Session.{count, lineAt, bodyAt, lineFits, fitsAt, sound, unitOf, isAccepted, good}
 use Rattle.session.specs.declared.Line.{Line}
 
 pub record Walked (s : List ℕ) (at k : ℕ) : Type 0 where
@@ -60,3 +61,17 @@ module _ (s : List ℕ) (short : length s ≤ 16384) where
 
       pub walk-end : (at k : ℕ) → Walked s at k → k ≡ count s → sound s ≡ eqb at (length s)
       walk-end at k w e = by-table ∙ rw (rw e at (w .fit)) (rw (w .place, e))
+
+-- a session that does its steps has 1 to 256 entries
+pub good-count : (s : List ℕ) → good s ≡ true → (1 ≤ count s) × (count s ≤ 256)
+unfolding good sound
+good-count s h =
+    let t₁ : Bool = leb (length s) 16384 in
+    let t₂ : Bool = leb 1 (count s) in
+    let t₃ : Bool = leb (count s) 256 in
+    let t₄ : Bool = allTo (fitsAt s) (count s) in
+    let t₅ : Bool = eqb (bodyAt s (count s)) (length s) in
+    let t₆ : Bool = isAccepted (startAnswer (unitOf s)) in
+    let u : t₁ && t₂ && t₃ ≡ true =
+    and-left (t₁ && t₂ && t₃) t₄ (and-left (t₁ && t₂ && t₃ && t₄) t₅ (and-left (t₁ && t₂ && t₃ && t₄ && t₅) t₆ h)) in
+    (leb-true 1 (count s) (and-right t₁ t₂ (and-left (t₁ && t₂) t₃ u)), leb-true (count s) 256 (and-right (t₁ && t₂) t₃ u))

@@ -2,7 +2,7 @@
 ghost use mathlib.Core.Path.{_≡_};
 ghost use mathlib.Core.Bool.{_&&_};
 ghost use lib.Dec.{eqb};
-ghost use Prim.Native.Nat.{_<_, _≤_};
+ghost use Prim.Native.Nat.{_<_};
 ghost use Rattle.session.specs.Session.{lineAt, bodyOf, startFits, stepFits, lineFits, sound};
 use super::Line;
 
@@ -34,6 +34,7 @@ pub fn body(s: &[u8], l: Line) -> &[u8]
     sheet::part(s, l.offset as usize, l.len as usize)
 }
 
+// Entry one is kind 0 and uses no field.
 fn start_fits(l: Line) -> bool
     ensures { λ r. ⌜ r ≡ startFits l ⌝ }
 {
@@ -46,7 +47,7 @@ fn start_fits(l: Line) -> bool
     open_fits(l)
 }
 
-// An open uses a alone.
+// An open uses a alone: its b and t are 0.
 fn open_fits(l: Line) -> bool
     ensures { λ r. ⌜ r ≡ eqb (l .b) 0 && eqb (l .t) 0 ⌝ }
 {
@@ -69,6 +70,7 @@ fn finish_fits(l: Line) -> bool
     l.len == 0
 }
 
+// A later entry; a second start is none of the steps.
 fn step_fits(l: Line) -> bool
     ensures { λ r. ⌜ r ≡ stepFits l ⌝ }
 {

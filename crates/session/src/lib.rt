@@ -2,6 +2,7 @@
 use book::Book;
 
 mod layout;
+pub mod running;
 
 // An entry of the table: document 01's kind, a, b, t, and where its body stands.
 pub struct Line {

@@ -1,0 +1,121 @@
+// The run of a session: its entries' steps in their order, from its start.
+ghost use mathlib.Core.Path.{_≡_};
+ghost use mathlib.Core.Bool.{true};
+ghost use Rattle.book.specs.Refusals.{answerOf};
+ghost use Rattle.book.specs.Steps.{answer, next};
+ghost use Rattle.session.specs.Session.{unitOf, stepOf, brief, good, badRun, goodRun, runOf};
+use super::Line;
+use super::Run;
+use super::StepAnswer;
+use super::layout;
+use book::Book;
+use book::error;
+use book::error::BookOutcome;
+
+// What the step of an entry answers.
+fn step_outcome(book: Book, l: Line, body: &[u8]) -> BookOutcome
+    ensures { λ r. ⌜ r ≡ answer book (stepOf l (now (body .entry))) ⌝ }
+{
+    let kind = l.kind;
+    match kind {
+        1 => steps::open_outcome(book, l.a, body),
+        2 => steps::act_outcome(book, l.a, l.b, body),
+        3 => steps::begin_outcome(book, l.a, l.b, l.t, body),
+        _ => steps::finish_outcome(book, l.t),
+    }
+}
+
+// The book after it.
+fn step_book(book: Book, l: Line, body: &[u8]) -> Book
+    ensures { λ r. ⌜ r ≡ next book (stepOf l (now (body .entry))) ⌝ }
+{
+    let kind = l.kind;
+    match kind {
+        1 => steps::open_book(book, l.a, body),
+        2 => steps::act_book(book, l.a, l.b, body),
+        3 => steps::begin_book(book, l.a, l.b, l.t, body),
+        _ => steps::finish_book(book, l.t),
+    }
+}
+
+// The number and detail of an answer.
+fn step_answer(o: BookOutcome) -> StepAnswer
+    ensures { λ r. ⌜ r ≡ brief (answerOf o) ⌝ }
+{
+    let a = error::answer_of(o);
+    StepAnswer {
+        number: a.number,
+        detail: a.detail,
+    }
+}
+
+// The body of entry one.
+fn unit(s: &[u8]) -> &[u8]
+    ensures { λ r. ⌜ now r ≡ unitOf (now (s .entry)) ⌝ }
+{
+    layout::body(s, layout::line_at(s, 0))
+}
+
+// Whether the session does its steps: its layout is sound, and its start is accepted.
+fn is_good(s: &[u8]) -> bool
+    ensures { λ r. ⌜ r ≡ good (now (s .entry)) ⌝ }
+{
+    if !layout::is_sound(s) {
+        return false;
+    }
+    let BookOutcome::Accepted = steps::start_outcome(unit(s)) else {
+        return false;
+    };
+    true
+}
+
+const NO_ANSWER: StepAnswer = StepAnswer {
+    number: 0,
+    detail: 0,
+};
+
+// A book of zeros, as a refused start gives it, and no steps.
+fn bad_run() -> Run
+    ensures { λ r. ⌜ r ≡ badRun ⌝ }
+{
+    Run {
+        number: 2,
+        count: 0,
+        steps: [NO_ANSWER; 255],
+        book: steps::start_book(b""),
+    }
+}
+
+// Every step, on the book as the one before left it. Step j + 1 is entry j + 1 of a table counted from 0.
+fn do_steps(s: &[u8]) -> Run
+    requires { ⌜ good (now s) ≡ true ⌝ }
+    ensures { λ r. ⌜ r ≡ goodRun (now (s .entry)) ⌝ }
+{
+    let n = sheet::u16_at(s, 0) - 1;
+    let mut book = steps::start_book(unit(s));
+    let mut answers = [NO_ANSWER; 255];
+    let mut j: usize = 0;
+    while j < n as usize {
+        let l = layout::line_at(s, j + 1);
+        let o = step_outcome(book, l, layout::body(s, l));
+        answers[j] = step_answer(o);
+        book = step_book(book, l, layout::body(s, l));
+        j += 1;
+    }
+    Run {
+        number: 0,
+        count: n,
+        steps: answers,
+        book,
+    }
+}
+
+// The run, as a call.
+pub fn run(s: &[u8]) -> Run
+    ensures { λ r. ⌜ r ≡ runOf (now (s .entry)) ⌝ }
+{
+    if is_good(s) {
+        return do_steps(s);
+    }
+    bad_run()
+}

@@ -1,0 +1,161 @@
+#!/usr/bin/env python3
+"""book_cases.py [SEED [LISTS]]: writes the lists that crates/book_cases replays, and what it must print (defaults: seed 1, 2,200 lists).
+
+The first list is document 01's worked session; each other one is a start and random steps. tools/ledger.py gives each expected answer and, at the list's end, the whole book. One list in four
+has its book altered on the way, as no step would, and goes on: 28, or whatever document 01 says of that book.
+
+A record: kind, a, b, t, the body's length (16 bits), the body; for a start (kind 0) and a step (1 to 4) then the expected number and
+detail, and behind 15 both amounts (16 bytes each, little-endian). Kind 5 alters field a of record b to t. Kind 6 ends a list: its body is
+the expected book: the open places (16 bits), the transfers under way (8 bits), each open place's subject (33 bytes: 32 and the length) and
+balance, each transfer's ends and amount.
+"""
+import collections, os, random, struct, sys
+from ledger import *
+
+seed, lists = int(sys.argv[1]) if len(sys.argv) > 1 else 1, int(sys.argv[2]) if len(sys.argv) > 2 else 2200
+rng = random.Random(seed)
+CRATE = os.path.join(os.path.dirname(os.path.abspath(__file__)), "..", "crates", "book_cases")
+SUBJECTS = [b"N1", b"N2", b"pier 7", b"\xff\x00", b"x" * 32]
+BIG = str(LIMIT - 1).encode()
+
+
+def amount_text():
+    return rng.choice([b"0", b"1", b"2", b"3", b"5", b"8", b"13", b"21", b"007", BIG, str(LIMIT // 2).encode(), str(rng.randrange(1 << 64)).encode(),
+                       str(LIMIT).encode(), b"", b"1.5", b"1e3", b"2E1", b"-1", b"9" * 40, b"0" * 38 + b"1"] if rng.random() < .3
+                      else [b"1", b"2", b"3", b"5", b"8"])
+
+
+def field(name, text, odd=.04):
+    """A field that is a text, or now and then none, no string, or empty."""
+    r = rng.random()
+    return () if r < odd else ((name, 2, b""),) if r < 2 * odd else ((name, 1, b""),) if r < 3 * odd else ((name, 1, text),)
+
+
+def torn(data):
+    if rng.random() < .95:
+        return data
+    data = bytearray(data)
+    how = rng.randrange(4)
+    if how == 0 and data:
+        data[rng.randrange(len(data))] ^= 1 << rng.randrange(8)
+    elif how == 1:
+        data += b"\0"
+    elif how == 2:
+        data = data[:-1]
+    else:
+        data = bytearray()
+    return bytes(data)
+
+
+def some(most, odd=.05):
+    return rng.randrange(256) if rng.random() < odd else rng.randrange(most)
+
+
+def a_step(book, k):
+    """Opens first; then any step, mostly one that the book could take."""
+    kind = 1 if k < 3 and rng.random() < .9 else rng.choice([1, 2, 2, 2, 3, 3, 3, 3, 4, 4])
+    here = sorted(book.opened) or [0]
+    place = lambda: rng.choice(here) if rng.random() < .85 else some(6)
+    if kind == 1:
+        unit = rng.choice([b"rd"] * 12 + [b"re", b"r", b"rd" * 20])
+        subject = rng.choice(SUBJECTS * 4 + [b"y" * 33])
+        return 1, k if k < 3 else some(6), 0, 0, torn(sheet(*field(SUBJECT, subject), *field(UNIT, unit), *field(BALANCE, amount_text())))
+    if kind == 2:
+        operation = rng.choice([12, 13, 14, 16, 17, 18, 19] * 3 + [11, 15, 20, 0, 255])
+        return 2, place(), operation, 0, torn(sheet(*field(AMOUNT, amount_text()), *field(AUTHORIZED_BY, b"boss", .1)))
+    if kind == 3:
+        other = field(TO_SUBJECT, b"Z") if rng.random() < .2 else ()
+        return 3, place(), place(), some(4, .04), torn(sheet(*field(AMOUNT, amount_text()), *other))
+    return 4, 0, 0, rng.choice(sorted(book.pending)) if book.pending and rng.random() < .7 else some(4, .04), b""
+
+
+def start_unit():
+    return rng.choice([b"rd"] * 60 + [b"", b"u" * 32, b"u" * 33])
+
+
+def alter(book):
+    """Sets one field of the book to a byte, as crates/book_cases does."""
+    a, b, t = rng.randrange(1, 12), rng.randrange(8), rng.choice([0, 1, 2, 3, 16, 32, 33, 128, 255])
+    x, r = book.places[b], book.transfers[b]
+    if a == 1:
+        book.unit.length = t
+    elif a == 2:
+        book.opened = {p for p in book.opened if p > 7} | {p for p in range(8) if t >> p & 1}
+    elif a == 3:
+        book.opened = {p for p in book.opened if p < 8} | {p + 8 for p in range(8) if t >> p & 1}
+    elif a == 4:
+        book.pending = {p for p in range(8) if t >> p & 1}
+    elif a == 5:
+        x.subject.length = t
+    elif a == 6:
+        x.scale = t
+    elif a == 7:
+        x.balance = t << 120
+    elif a == 8:
+        r.source = t
+    elif a == 9:
+        r.destination = t
+    elif a == 10:
+        r.scale = t
+    else:
+        r.amount = t << 120
+    return a, b, t
+
+
+out, numbers, looks, altered, bad = bytearray(), collections.Counter(), 0, 0, 0
+
+
+def put(kind, a, b, t, body, answer=None):
+    global out
+    out += struct.pack("<BBBBH", kind, a, b, t, len(body)) + body
+    if answer:
+        numbers[answer[0]] += 1
+        out += bytes(answer[:2])
+        if answer[0] == 15:
+            out += answer[2].to_bytes(16, "little") + answer[3].to_bytes(16, "little")
+
+
+def whole(book):
+    data = struct.pack("<HB", sum(1 << p for p in book.opened), sum(1 << t for t in book.pending))
+    for p in sorted(book.opened):
+        x = book.places[p]
+        data += x.subject.data + bytes([x.subject.length]) + x.balance.to_bytes(16, "little")
+    for t in sorted(book.pending):
+        r = book.transfers[t]
+        data += bytes([r.source, r.destination]) + r.amount.to_bytes(16, "little")
+    return data
+
+
+def worked():
+    """Document 01's session."""
+    opened = lambda subject, balance: sheet((SUBJECT, 1, subject), (UNIT, 1, b"rd"), (BALANCE, 1, balance))
+    five = sheet((AMOUNT, 1, b"5"))
+    return [(1, 0, 0, 0, opened(b"N1", b"5")), (1, 1, 0, 0, opened(b"N2", b"0")), (3, 0, 1, 0, five), (3, 1, 0, 1, five), (4, 0, 0, 0, b"")]
+
+
+for n in range(lists):
+    unit = start_unit() if n else b"rd"
+    answer, book = start(unit)
+    put(0, 0, 0, 0, unit, answer)
+    state = 0
+    for k in range(rng.randrange(4, 14) if n else 5):
+        if n % 4 == 3 and k > 2 and rng.random() < .5:
+            put(5, *alter(book), b"")
+            altered += 1
+            state = state or 1
+        entry = a_step(book, k) if n else worked()[k]
+        answer = step(book, *entry)
+        put(*entry, answer)
+        state = 2 if answer[0] == 28 and state == 1 else state
+    bad += state == 2
+    looks += 1
+    put(6, 0, 0, 0, whole(book))
+
+with open(os.path.join(CRATE, "stdin"), "wb") as f:
+    f.write(out)
+with open(os.path.join(CRATE, "stdout"), "w") as f:
+    for number in range(29):
+        if numbers[number]:
+            f.write("number %d: %d equal, 0 unequal\n" % (number, numbers[number]))
+    f.write("books at a list's end: %d equal, 0 unequal\nalterations: %d\naltered books that met 28: %d\nbytes %d, left over 0\n" % (looks, altered, bad, len(out)))
+print(dict(sorted(numbers.items())), "lists", lists, "alterations", altered, "altered books that met 28", bad, "bytes", len(out))

@@ -1,0 +1,273 @@
+"""Document 01's book, sessions and listing in Python, written from the document and from nothing else: what the tests hold the library to.
+
+A step answers (number, detail, available, requested); the last two are whole credits, 0 outside 15.
+"""
+import struct
+
+LIMIT = 1 << 128
+SUBJECT, UNIT, BALANCE, AMOUNT, TO_SUBJECT, AUTHORIZED_BY = 1, 2, 4, 7, 8, 10
+MOST_BYTES, MOST_ENTRIES = 16384, 256
+
+
+class Refused(Exception):
+    def __init__(self, number, detail=0, available=0, requested=0):
+        self.answer = (number, detail, available, requested)
+
+
+# ---- sheets
+
+def sheet(*fields):
+    """The bytes of an input sheet of (name, kind, body); the caller sees to names that rise."""
+    table, bodies, at = b"", b"", 1 + 6 * len(fields)
+    for name, kind, body in fields:
+        table += struct.pack("<BBHH", name, kind, at, len(body))
+        bodies, at = bodies + body, at + len(body)
+    return bytes([len(fields)]) + table + bodies
+
+
+def input_sheet(data):
+    """The fields of a sound input sheet as {name: body, None for no string}; 2 for a torn one."""
+    if not data:
+        raise Refused(2)
+    count = data[0]
+    at, last, fields = 1 + 6 * count, 0, {}
+    if at > len(data):
+        raise Refused(2)
+    for k in range(count):
+        name, kind, offset, length = struct.unpack_from("<BBHH", data, 1 + 6 * k)
+        if not (last < name <= 10) or offset != at:
+            raise Refused(2)
+        if kind == 1 and length <= 256:
+            fields[name] = data[offset:offset + length]
+        elif kind == 2 and length == 0:
+            fields[name] = None
+        else:
+            raise Refused(2)
+        at, last = at + length, name
+    if at != len(data):
+        raise Refused(2)
+    return fields
+
+
+def text_in(fields, name):
+    if name not in fields:
+        raise Refused(7, name)
+    if fields[name] is None:
+        raise Refused(8, name)
+    if not fields[name]:
+        raise Refused(9, name)
+    return fields[name]
+
+
+def amount_in(fields, name):
+    if name not in fields:
+        raise Refused(7, name)
+    text = fields[name]
+    if text is None:
+        raise Refused(10, name)
+    if any(mark in text for mark in b".eE"):
+        raise Refused(11, name)
+    if not 1 <= len(text) <= 39 or not all(48 <= c <= 57 for c in text) or int(text) >= LIMIT:
+        raise Refused(10, name)
+    return int(text)
+
+
+# ---- the book
+
+class Name:
+    """32 bytes and a length: an altered book's may be any."""
+
+    def __init__(self, text=b""):
+        self.data, self.length = text.ljust(32, b"\0"), len(text)
+
+    def text(self):
+        return self.data[:self.length]
+
+    def is_bad(self):
+        return not 1 <= self.length <= 32
+
+
+class Place:
+    def __init__(self, subject=b"", balance=0):
+        self.subject, self.balance, self.scale = Name(subject), balance, 0
+
+
+class Transfer:
+    def __init__(self):
+        self.source = self.destination = self.amount = self.scale = 0
+
+
+class Book:
+    """Every record, in use or not, so that altered books can be judged too."""
+
+    def __init__(self, unit=b""):
+        self.unit = Name(unit)
+        self.opened, self.pending = set(), set()
+        self.places = [Place() for _ in range(16)]
+        self.transfers = [Transfer() for _ in range(8)]
+
+    def total(self):
+        return sum(self.places[p].balance for p in self.opened) + sum(self.transfers[t].amount for t in self.pending)
+
+    def is_bad(self):
+        return (self.total() >= LIMIT or self.unit.is_bad()
+                or any(self.places[p].subject.is_bad() for p in self.opened)
+                or any(x.scale for x in self.places) or any(x.scale for x in self.transfers)
+                or any(end not in self.opened for t in self.pending
+                       for end in (self.transfers[t].source, self.transfers[t].destination)))
+
+
+def start(unit):
+    """The answer, and the book: of zeros where the start is refused."""
+    if not unit:
+        return (9, UNIT, 0, 0), Book()
+    if len(unit) > 32:
+        return (27, UNIT, 0, 0), Book()
+    return (0, 0, 0, 0), Book(unit)
+
+
+def do_open(book, place, data):
+    if place > 15:
+        raise Refused(22)
+    if place in book.opened:
+        raise Refused(5)
+    fields = input_sheet(data)
+    subject, unit, balance = text_in(fields, SUBJECT), text_in(fields, UNIT), amount_in(fields, BALANCE)
+    if unit != book.unit.text():
+        raise Refused(26)
+    if len(subject) > 32:
+        raise Refused(27, SUBJECT)
+    if book.total() + balance >= LIMIT:
+        raise Refused(25)
+    book.opened.add(place)
+    book.places[place] = Place(subject, balance)
+
+
+def taken(held, fields):
+    asked = amount_in(fields, AMOUNT)
+    if asked == 0:
+        raise Refused(14)
+    if asked > held:
+        raise Refused(15, 0, held, asked)
+    return asked
+
+
+def do_act(book, place, operation, data):
+    if place > 15:
+        raise Refused(22)
+    if place not in book.opened:
+        raise Refused(6)
+    fields = input_sheet(data)
+    if operation not in (12, 13, 14, 16, 17, 18, 19):
+        raise Refused(4)
+    x = book.places[place]
+    if operation in (12, 13, 17):
+        if operation == 12:
+            text_in(fields, AUTHORIZED_BY)
+        asked = amount_in(fields, AMOUNT)
+        if asked == 0:
+            raise Refused(14)
+        if book.total() + asked >= LIMIT:
+            raise Refused(25)
+        x.balance += asked
+    else:
+        if operation == 19:
+            text_in(fields, AUTHORIZED_BY)
+        x.balance -= taken(x.balance, fields)
+
+
+def do_begin(book, source, destination, transfer, data):
+    if source > 15 or destination > 15 or transfer > 7:
+        raise Refused(22)
+    if source == destination:
+        raise Refused(24)
+    if transfer in book.pending:
+        raise Refused(21)
+    if source not in book.opened or destination not in book.opened:
+        raise Refused(6)
+    fields = input_sheet(data)
+    x, r = book.places[source], book.transfers[transfer]
+    asked = taken(x.balance, fields)
+    x.balance -= asked
+    r.source, r.destination, r.amount = source, destination, asked
+    book.pending.add(transfer)
+
+
+def do_finish(book, transfer):
+    if transfer > 7:
+        raise Refused(22)
+    if transfer not in book.pending:
+        raise Refused(23)
+    r = book.transfers[transfer]
+    book.places[r.destination].balance += r.amount
+    book.pending.remove(transfer)
+    book.transfers[transfer] = Transfer()
+
+
+def step(book, kind, a, b, t, body):
+    """Does a session's entry on the book; gives the answer."""
+    if book.is_bad():
+        return (28, 0, 0, 0)
+    try:
+        if kind == 1:
+            do_open(book, a, body)
+        elif kind == 2:
+            do_act(book, a, b, body)
+        elif kind == 3:
+            do_begin(book, a, b, t, body)
+        else:
+            do_finish(book, t)
+    except Refused as refused:
+        return refused.answer
+    return (0, 0, 0, 0)
+
+
+# ---- sessions
+
+def session(entries):
+    """The bytes of a session of (kind, a, b, t, body)."""
+    table, bodies, at = b"", b"", 2 + 8 * len(entries)
+    for kind, a, b, t, body in entries:
+        table += struct.pack("<BBBBHH", kind, a, b, t, at & 0xFFFF, len(body))
+        bodies, at = bodies + body, at + len(body)
+    return struct.pack("<H", len(entries)) + table + bodies
+
+
+def entries_of(data):
+    """The entries of a session, or None for a broken layout."""
+    if not 2 <= len(data) <= MOST_BYTES:
+        return None
+    (count,) = struct.unpack_from("<H", data)
+    at, entries = 2 + 8 * count, []
+    if not 1 <= count <= MOST_ENTRIES or at > len(data):
+        return None
+    for k in range(count):
+        kind, a, b, t, offset, length = struct.unpack_from("<BBBBHH", data, 2 + 8 * k)
+        unused = {0: (a, b, t), 1: (b, t), 2: (t,), 3: (), 4: (a, b, length)}.get(kind)
+        if unused is None or any(unused) or (kind == 0) != (k == 0) or offset != at:
+            return None
+        entries.append((kind, a, b, t, data[offset:offset + length]))
+        at += length
+    return entries if at == len(data) else None
+
+
+def run(data):
+    """The run of a session: its book and its steps' answers; None for a bad one."""
+    entries = entries_of(data)
+    if entries is None:
+        return None
+    answer, book = start(entries[0][4])
+    if answer[0]:
+        return None
+    return book, [step(book, *entry) for entry in entries[1:]]
+
+
+def listing(data):
+    ran = run(data)
+    if ran is None:
+        return b"bad session\n"
+    book, answers = ran
+    lines = ["%d %d %d" % (k, answer[0], answer[1]) for k, answer in enumerate(answers, 1)]
+    lines += ["place %d %d" % (p, book.places[p].balance) for p in sorted(book.opened)]
+    lines.append("held %d way %d total %d" % (len(book.opened), len(book.pending), book.total()))
+    return "".join(line + "\n" for line in lines).encode()
