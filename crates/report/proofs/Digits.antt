@@ -8,11 +8,12 @@ use borrow.Author.Tests.{lt-ltb, le-ltb}
 use lib.Count.{ones, ones-step, ones-le}
 use lib.ListN.{take}
 use lib.Seq.{take-append-seam}
-use Rattle.amount.specs.Canonical.{wholeText, widthOf, widthUpTo, lastDigits, canonicalText, textOf}
-use Rattle.amount.specs.Texts.{InRange}
+use Rattle.amount.specs.Numbers.{val, halves}
+use Rattle.amount.specs.Canonical.{wholeText, widthOf, widthUpTo, lastDigits, strip, decimalText, canonicalText, textOf}
 use Rattle.amount.specs.declared.Amount.{Amount}
 use Rattle.amount.specs.declared.text.Text.{Text}
-use Rattle.amount.proofs.Theorems.{text-is-canonical}
+use Rattle.amount.proofs.Cutting.{whole-length}
+use Rattle.amount.proofs.Assembling.{width-few}
 use Rattle.book.specs.Sets.{bit, sum}
 use Rattle.report.specs.Listing.{members}
 
@@ -34,9 +35,9 @@ three-digits n g h =
 
 -- ---- the text of an amount
 
-pub few-bytes : (a : Amount) (t : Text) → InRange a → t ≡ textOf (canonicalText a) → t .len ≤ 257
-unfolding textOf
-few-bytes a t r e = rw e (text-is-canonical a r .few)
+pub few-bytes : (a : Amount) (t : Text) → a .scale ≡ 0 → t ≡ textOf (canonicalText a) → t .len ≤ 39
+unfolding textOf canonicalText strip decimalText
+few-bytes a t z e = rw (e, z) (omega (arith, whole-length (val (halves (val (a .mantissa)))), width-few (val (halves (val (a .mantissa))))))
 
 pub first-bytes : (l : List ℕ) (t : Text) → t ≡ textOf l → take (t .len) (t .bytes) ≡ l
 unfolding textOf

@@ -1,4 +1,5 @@
 -- The laws of the definitions, and the theorems that docs/PROOFS.md names.
 pub mod Putting
 pub mod Digits
-pub mod Lines
+pub mod Turns
+pub mod Fitting

@@ -40,16 +40,17 @@ pub fn put_number(out: &mut [u8], at: usize, n: u16) -> usize
 
 // The first bytes of a fixed text.
 fn put_first(out: &mut [u8], at: usize, bytes: [u8; 257], len: u16) -> usize
-    requires { ⌜ (len ≤ 257) × (at + 257 < 65536) ⌝ }
-    ensures { λ r. ⌜ (r ≤ at + 257) × Wrote (now (out .entry)) at (take len bytes) (now (out .exit)) r ⌝ }
+    requires { ⌜ (len ≤ 39) × (at + 39 < 65536) ⌝ }
+    ensures { λ r. ⌜ (r ≤ at + 39) × Wrote (now (out .entry)) at (take len bytes) (now (out .exit)) r ⌝ }
 {
     let n = len as usize;
     put(out, at, &bytes[..n])
 }
 
+// An amount of whole credits, as all of a book are.
 pub fn put_amount(out: &mut [u8], at: usize, a: Amount) -> usize
-    requires { ⌜ at + 257 < 65536 ⌝ }
-    ensures { λ r. ⌜ (r ≤ at + 257) × Wrote (now (out .entry)) at (canonicalText a) (now (out .exit)) r ⌝ }
+    requires { ⌜ (a .scale ≡ 0) × (at + 39 < 65536) ⌝ }
+    ensures { λ r. ⌜ (r ≤ at + 39) × Wrote (now (out .entry)) at (canonicalText a) (now (out .exit)) r ⌝ }
 {
     let t = a.to_canonical_string();
     let bytes = t.bytes;

@@ -1,7 +1,4 @@
 use borrow.Author.Needs.{needs}
-use native.Mathlib.Omega.{arith}
-use Rattle.amount.specs.Texts.{InRange}
-use Rattle.amount.proofs.Halves.{whole-of}
 use Rattle.report.proofs.Putting.{as-text}
 use Rattle.report.proofs.Digits.{few-bytes, first-bytes}
 use Rattle.report.proofs.text.put_amount.Statement.{statement}
@@ -14,9 +11,8 @@ to-canonical-string-requires c κs = search needs
 
 put-first-requires : tie.Need-put-first-requires
 put-first-requires c κs =
-    let a = c .before .before .before .before .args .a in
-    let r : InRange a = record { mantissa = whole-of (a .mantissa) (omega arith) (omega arith) .fits; scale = omega arith } in
-    (few-bytes a _ r (c .before .before .to-canonical-string .ensures), search needs)
+    let start = c .before .before .before .before in
+    (few-bytes (start .args .a) _ (start .pre .0) (c .before .before .to-canonical-string .ensures), search needs)
 
 same-length : tie.Need-same-length
 same-length c = search needs

@@ -2,9 +2,9 @@ use borrow.Author.Needs.{needs}
 use mathlib.Core.Path.{sym, _∙_}
 use borrow.Author.Tests.{not-true, not-false}
 use Rattle.report.proofs.Putting.{_then_, wrote-none, as-text}
-use Rattle.report.proofs.Lines.{closed-line, open-line}
-use Rattle.report.proofs.listing.put_place.Statement.{statement}
-use Rattle.report.proofs.listing.put_place.Tie as tie
+use Rattle.report.proofs.Turns.{closed-line, open-line}
+use Rattle.report.proofs.lines.put_place.Statement.{statement}
+use Rattle.report.proofs.lines.put_place.Tie as tie
 use Rattle.report.proofs.text.put.Reads as put-reads
 use Rattle.report.proofs.text.put_amount.Reads as put-amount-reads
 use Rattle.report.proofs.text.put_number.Reads as put-number-reads

@@ -3,10 +3,10 @@ use mathlib.Core.Path.{ap}
 use Rattle.amount.specs.Canonical.{wholeText}
 use Rattle.report.specs.Listing.{countsText}
 use Rattle.report.proofs.Putting.{_then_, as-text}
-use Rattle.report.proofs.listing.put_counts.Statement.{statement}
-use Rattle.report.proofs.listing.put_counts.Tie as tie
-use Rattle.report.proofs.listing.count16.Reads as count16-reads
-use Rattle.report.proofs.listing.count8.Reads as count8-reads
+use Rattle.report.proofs.lines.put_counts.Statement.{statement}
+use Rattle.report.proofs.lines.put_counts.Tie as tie
+use Rattle.report.proofs.lines.count16.Reads as count16-reads
+use Rattle.report.proofs.lines.count8.Reads as count8-reads
 use Rattle.report.proofs.text.put.Reads as put-reads
 use Rattle.report.proofs.text.put_number.Reads as put-number-reads
 

@@ -1,8 +1,8 @@
 use lib.Count.{ones-le}
 use Rattle.report.proofs.Digits.{ones-members}
 use borrow.Author.Needs.{needs}
-use Rattle.report.proofs.listing.count16.Statement.{statement}
-use Rattle.report.proofs.listing.count16.Tie as tie
+use Rattle.report.proofs.lines.count16.Statement.{statement}
+use Rattle.report.proofs.lines.count16.Tie as tie
 
 cast-result : tie.Need-cast-result
 cast-result c = search (needs, ones-le 16 (c .args .set) (search needs))

@@ -1,8 +1,8 @@
 use borrow.Author.Needs.{needs}
 use Rattle.report.specs.Listing.{stepLine}
 use Rattle.report.proofs.Putting.{_then_}
-use Rattle.report.proofs.listing.put_step.Statement.{statement}
-use Rattle.report.proofs.listing.put_step.Tie as tie
+use Rattle.report.proofs.lines.put_step.Statement.{statement}
+use Rattle.report.proofs.lines.put_step.Tie as tie
 use Rattle.report.proofs.text.put.Reads as put-reads
 use Rattle.report.proofs.text.put_number.Reads as put-number-reads
 

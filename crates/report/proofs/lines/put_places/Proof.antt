@@ -7,13 +7,15 @@ use lib.ListN.{length}
 use Rattle.report.specs.Listing.{placeLines}
 use Rattle.report.specs.Writing.{Wrote}
 use Rattle.report.proofs.Putting.{_then_, wrote-none, as-text}
-use Rattle.report.proofs.Lines.{place-more}
-use Rattle.report.proofs.listing.put_places.Statement.{statement}
-use Rattle.report.proofs.listing.put_places.Tie as tie
-use Rattle.report.proofs.listing.put_place.Reads as put-place-reads
+use Rattle.report.proofs.Turns.{place-more}
+use Rattle.book.specs.Book.{placeRecord}
+use Rattle.book.proofs.Formed.{formed}
+use Rattle.report.proofs.lines.put_places.Statement.{statement}
+use Rattle.report.proofs.lines.put_places.Tie as tie
+use Rattle.report.proofs.lines.put_place.Reads as put-place-reads
 
 abbrev Inv-loop : tie.InvT-loop
-Inv-loop out₀ at book opened end₀ i₀ out end i = (i ≤ 16) × (end ≤ at + 268 * i) × (length out ≡ length out₀) × Wrote out₀ at (placeLines book i) out end
+Inv-loop out₀ at book opened end₀ i₀ out end i = (i ≤ 16) × (end ≤ at + 50 * i) × (length out ≡ length out₀) × Wrote out₀ at (placeLines book i) out end
 
 abbrev μ-loop : tie.MeasureT-loop
 μ-loop out₀ at book opened end₀ i₀ out end i = 16 - i
@@ -32,7 +34,10 @@ cast-put-place : tie.Need-cast-put-place Inv-loop μ-loop
 cast-put-place c = search needs
 
 put-place-requires : tie.Need-put-place-requires Inv-loop μ-loop
-put-place-requires c κs = search needs
+unfolding placeRecord
+put-place-requires c κs =
+    let l = c .before .before .before in
+    (search needs, formed (l .before .before .args .t3) (l .before .before .pre .1) .whole-places (l .loop .i) (search needs))
 
 add-i : tie.Need-add-i Inv-loop μ-loop
 add-i c = search needs

@@ -1,19 +1,20 @@
 // The listing of a run: its answers, its open places, its figures.
 ghost use mathlib.Core.Path.{_≡_};
-ghost use mathlib.Core.Bool.{cond};
+ghost use mathlib.Core.Bool.{true, cond};
 ghost use mathlib.Core.Option.{some, none};
 ghost use Prim.Native.Nat.{_+_, _<_, _≤_};
 ghost use lib.ListN.{take};
 ghost use Rattle.amount.specs.Numbers.{limit};
 ghost use Rattle.book.specs.Sets.{has};
-ghost use Rattle.book.specs.Book.{total};
-ghost use Rattle.report.specs.Listing.{stepLine, stepLines, placeLine, placeLines, members, countsText, lastLine};
+ghost use Rattle.book.specs.Book.{total, wellFormed};
+ghost use Rattle.report.specs.Listing.{stepLine, stepLines, placeLine, placeLines, members, countsText, lastLine, runText};
 ghost use Rattle.report.specs.Writing.{Wrote};
 use crate::text;
 use amount::Amount;
 use amount::Checked;
 use book::Book;
 use book::Place;
+use session::Run;
 use session::StepAnswer;
 
 // What step k answered.
@@ -47,8 +48,8 @@ fn put_steps(out: &mut [u8], answers: [StepAnswer; 255], count: u16) -> usize
 
 // Place p and its balance, where it is open.
 fn put_place(out: &mut [u8], at: usize, opened: u16, p: u8, x: Place) -> usize
-    requires { ⌜ at + 268 < 65536 ⌝ }
-    ensures { λ r. ⌜ (r ≤ at + 268) × Wrote (now (out .entry)) at (placeLine p (cond (has opened p) (some x) none)) (now (out .exit)) r ⌝ }
+    requires { ⌜ (at + 50 < 65536) × (x .balance .scale ≡ 0) ⌝ }
+    ensures { λ r. ⌜ (r ≤ at + 50) × Wrote (now (out .entry)) at (placeLine p (cond (has opened p) (some x) none)) (now (out .exit)) r ⌝ }
 {
     if !steps::has16(opened, p) {
         return at;
@@ -62,8 +63,8 @@ fn put_place(out: &mut [u8], at: usize, opened: u16, p: u8, x: Place) -> usize
 
 // The open places, lowest first.
 fn put_places(out: &mut [u8], at: usize, book: Book) -> usize
-    requires { ⌜ at ≤ 3060 ⌝ }
-    ensures { λ r. ⌜ (r ≤ at + 4288) × Wrote (now (out .entry)) at (placeLines book 16) (now (out .exit)) r ⌝ }
+    requires { ⌜ (at ≤ 3060) × (wellFormed book ≡ true) ⌝ }
+    ensures { λ r. ⌜ (r ≤ at + 800) × Wrote (now (out .entry)) at (placeLines book 16) (now (out .exit)) r ⌝ }
 {
     let opened = book.opened;
     let mut end = at;
@@ -102,8 +103,8 @@ fn put_counts(out: &mut [u8], at: usize, opened: u16, pending: u8) -> usize
 
 // The counts and the total.
 fn put_last(out: &mut [u8], at: usize, book: Book) -> usize
-    requires { ⌜ (at ≤ 7348) × (total book < limit) ⌝ }
-    ensures { λ r. ⌜ (r ≤ at + 281) × Wrote (now (out .entry)) at (lastLine book) (now (out .exit)) r ⌝ }
+    requires { ⌜ (at ≤ 3860) × (total book < limit) ⌝ }
+    ensures { λ r. ⌜ (r ≤ at + 63) × Wrote (now (out .entry)) at (lastLine book) (now (out .exit)) r ⌝ }
 {
     let Checked::Some(mantissa) = steps::book_total(book) else {
         return at;
@@ -112,4 +113,19 @@ fn put_last(out: &mut [u8], at: usize, book: Book) -> usize
     let word = text::put(out, counts, b" total ");
     let total = text::put_amount(out, word, Amount { mantissa, scale: 0 });
     text::put(out, total, b"\n")
+}
+
+// The listing of a run, from the buffer's start on.
+pub fn put_listing(out: &mut [u8], run: Run) -> usize
+    requires { ⌜ (run .number ≡ 0 → (run .count ≤ 255) × (wellFormed (run .book) ≡ true)) ⌝ }
+    ensures { λ r. ⌜ (r ≤ 4096) × Wrote (now (out .entry)) 0 (runText run) (now (out .exit)) r ⌝ }
+{
+    if run.number != 0 {
+        return text::put(out, 0, b"bad session\n");
+    }
+    let answers = run.steps;
+    let book = run.book;
+    let steps = put_steps(out, answers, run.count);
+    let places = put_places(out, steps, book);
+    put_last(out, places, book)
 }
