@@ -1,14 +1,15 @@
 -- The listing as a whole: the text of a session's run is the session's, and what a buffer holds after it.
 use mathlib.Core.Path.{_≡_, refl, ap, _∙_}
-use mathlib.Core.Bool.{Bool, true, false}
+use mathlib.Core.Bool.{Bool, true, false, cond}
 use mathlib.Core.List.{List, _++_}
 use Prim.{absurd}
 use Prim.Native.Nat.{ℕ, _+_, _-_, _≤_, _<_}
 use native.Mathlib.Nat.{zero-add}
 use native.Mathlib.Omega.{arith}
+use lib.Dec.{leb}
 use lib.ListN.{length, take}
 use lib.Seq.{sets-eq, take-append-seam}
-use borrow.Author.Tests.{le-leb, lt-leb, eq-eqb, ne-eqb}
+use borrow.Author.Tests.{le-leb, lt-leb, leb-true, eq-eqb, ne-eqb}
 use Rattle.sheet.specs.Encode.{putInto}
 use Rattle.book.specs.Book.{wellFormed}
 use Rattle.session.specs.Session.{good, answersOf, bookOf, filled, goodRun, badRun, runOf}
@@ -62,3 +63,12 @@ all-fits w old new r h o =
       o .behind ∙ zero-add (length w),
       o .bytes ∙ sets-eq w old 0 (omega arith) ∙ rw zero-add,
     )
+
+-- a caller may read as many bytes as it is told
+in-case : (t : Bool) (w old : List ℕ) → leb (length w) (length old) ≡ t → cond t (length w) 0 ≤ length old
+in-case true w old h = leb-true (length w) (length old) h
+in-case false w old h = omega arith
+
+pub length-in : (w old : List ℕ) (r : ℕ) → r ≡ lengthIn w old → r ≤ length old
+unfolding lengthIn
+length-in w old r e = rw e (in-case (leb (length w) (length old)) w old refl)

@@ -3,3 +3,6 @@ pub mod Putting
 pub mod Digits
 pub mod Turns
 pub mod Fitting
+pub mod Opened
+pub mod Theorems
+pub mod Worked
