@@ -18,6 +18,7 @@ use profiles::error::Answer;
 use profiles::error::answer_of;
 
 mod book_calls;
+mod session_calls;
 
 #[no_mangle]
 pub extern "C" fn credits_amount_read(text: &[u8]) -> Given

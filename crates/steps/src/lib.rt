@@ -30,5 +30,7 @@ pub use finish::finish_book;
 pub use finish::finish_outcome;
 pub use open::open_book;
 pub use open::open_outcome;
+pub use sets::has16;
 pub use start::start_book;
 pub use start::start_outcome;
+pub use totals::book_total;

@@ -1,0 +1,66 @@
+use borrow.Author.Needs.{needs}
+use mathlib.Core.Path.{sym}
+use lib.Seq.{length-take-le}
+use Rattle.report.proofs.Fitting.{length-in}
+use Rattle.listing.proofs.main.Statement.{statement}
+use Rattle.listing.proofs.main.Tie as tie
+use Rattle.io.proofs.buffer.Reads as buffer-reads
+use Rattle.io.proofs.read_full.Reads as read-full-reads
+use Rattle.io.proofs.write_all.Reads as write-all-reads
+use Rattle.report.proofs.listing.Reads as listing-reads
+
+slice-aggregate-read-full : tie.Need-slice-aggregate-read-full
+slice-aggregate-read-full c = search needs
+
+read-full-requires : tie.Need-read-full-requires
+read-full-requires c κs = search needs
+
+buffer-requires : tie.Need-buffer-requires
+buffer-requires c κs = search needs
+
+array-share-prefix-session : tie.Need-array-share-prefix-session
+array-share-prefix-session c = search needs
+
+slice-aggregate-listing : tie.Need-slice-aggregate-listing
+slice-aggregate-listing c = search needs
+
+slice-aggregate-listing-2 : tie.Need-slice-aggregate-listing-2
+slice-aggregate-listing-2 c = search needs
+
+listing-requires : tie.Need-listing-requires
+listing-requires c κs = search needs
+
+cast-len : tie.Need-cast-len
+cast-len c = search needs
+
+array-share-prefix-out : tie.Need-array-share-prefix-out
+array-share-prefix-out c = let told = length-in _ _ _ (c .before .listing .ensures .0) in search needs
+
+slice-aggregate-write-all : tie.Need-slice-aggregate-write-all
+slice-aggregate-write-all c =
+    let l = c .before .before .listing in
+    let told = length-in _ _ _ (l .ensures .0) in
+    sym (length-take-le (l .result) (l .last .1 .0) (search needs))
+
+write-all-requires : tie.Need-write-all-requires
+write-all-requires c κs = search needs
+
+returns : tie.Need-returns
+returns c = search needs
+
+pub main-spec : {M : Type 1} → statement M
+main-spec =
+    tie.close
+    (tie.spec
+    slice-aggregate-read-full
+    read-full-requires
+    buffer-requires
+    array-share-prefix-session
+    slice-aggregate-listing
+    slice-aggregate-listing-2
+    listing-requires
+    cast-len
+    array-share-prefix-out
+    slice-aggregate-write-all
+    write-all-requires
+    returns)
