@@ -56,6 +56,13 @@ typedef struct {
 
 typedef struct { credits_answer answer; credits_book book; } credits_started;
 
+/* What a step of a session answered. */
+typedef struct { uint8_t number, detail; } credits_step;
+
+/* number 0, the answers of the first `count` steps (the others are zeros) and the book after them; or 2, no steps and a
+ * book of zeros for a bad session. */
+typedef struct { uint8_t number; uint16_t count; credits_step steps[255]; credits_book book; } credits_run;
+
 credits_given credits_amount_read(const uint8_t *text, size_t text_len);
 uint8_t credits_amount_compare(credits_amount a, credits_amount b); /* 0 less, 1 equal, 2 greater */
 credits_given credits_amount_add(credits_amount a, credits_amount b);
@@ -85,6 +92,13 @@ credits_answer credits_book_act(credits_book *book, uint8_t place, uint8_t opera
 credits_answer credits_book_begin(credits_book *book, uint8_t from, uint8_t to, uint8_t transfer, const uint8_t *sheet,
                                   size_t sheet_len);
 credits_answer credits_book_finish(credits_book *book, uint8_t transfer);
+
+/* The run of a session, from its start. */
+credits_run credits_session_run(const uint8_t *session, size_t session_len);
+
+/* Writes the listing of a session and gives its length; 0, and no byte is written, where out is too short. 4,096 bytes
+ * are always enough. */
+uint16_t credits_session_listing(const uint8_t *session, size_t session_len, uint8_t *out, size_t out_len);
 
 /* Equals sizeof(credits_book); where it does not, this header is not the library's. */
 uint32_t credits_book_size(void);

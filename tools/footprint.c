@@ -224,11 +224,49 @@ static void books(void)
     show(finish);
 }
 
+/* ---- sessions: of no bytes, of a start alone, and of 254 opens and acts with a begin and a finish among them */
+
+static size_t entry(uint8_t *session, size_t k, size_t at, const uint8_t head[4], const void *body, size_t len)
+{
+    uint8_t row[8] = { head[0], head[1], head[2], head[3], (uint8_t)at, (uint8_t)(at >> 8), (uint8_t)len, (uint8_t)(len >> 8) };
+    memcpy(session + 2 + 8 * k, row, 8);
+    memcpy(session + at, body, len);
+    return at + len;
+}
+
+static void sessions(void)
+{
+    enum { ENTRIES = 256 };
+    static uint8_t session[16384], out[4096];
+    const sheet opened = opening("N1", "rd", "1000"), three = asking("3");
+    size_t lengths[] = { 0, 12, 0 }, at = 2 + 8 * ENTRIES;
+    row ran = { "credits_session_run", 8192, 0 }, listed = { "credits_session_listing", 0, 0 };
+    for (size_t n = 1; n < 3; n++) {
+        size_t entries = n == 1 ? 1 : ENTRIES;
+        session[0] = (uint8_t)entries, session[1] = (uint8_t)(entries >> 8);
+        at = entry(session, 0, 2 + 8 * entries, (const uint8_t[4]){ 0 }, "rd", 2);
+        for (size_t k = 1; k < entries; k++) {
+            uint8_t turn = (uint8_t)(k % 4), t = (uint8_t)(k / 4 % 8);
+            const uint8_t heads[4][4] = { { 1, (uint8_t)(k / 4 % 16) }, { 2, 0, 18 }, { 3, 0, 1, t }, { 4, 0, 0, t } };
+            const sheet *body = turn == 0 ? &opened : &three;
+            at = entry(session, k, at, heads[turn], body->bytes, turn == 3 ? 0 : body->len);
+        }
+        lengths[n] = at;
+        uint64_t regs[6] = { WORD(result), WORD(session), lengths[n] };
+        take(&ran, (const void *)credits_session_run, regs, NULL, 0);
+        uint64_t lists[6] = { WORD(session), lengths[n], WORD(out), sizeof out };
+        take(&listed, (const void *)credits_session_listing, lists, NULL, 0);
+    }
+    show(ran);
+    show(listed);
+}
+
 int main(void)
 {
     printf("%-24s %8s %8s\n", "call", "stack", "budget");
     amounts();
     sheets();
     books();
+    sessions();
     return over;
 }
