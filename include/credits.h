@@ -1,9 +1,12 @@
-/* Credit records for bridge nodes: amounts, check, apply and credit. Link with libcredits.a.
+/* Credit records for bridge nodes: amounts, check, apply and credit, and the book. Link with libcredits.a.
  *
  * Every call takes any bytes and ends with an acceptance (number 0) or one numbered refusal; README.md has the table.
  * Nothing is allocated and nothing is kept between calls. A slice is a pointer and a length; with length 0 any pointer
- * will do, NULL too. What a call may write (out) overlaps nothing else passed to it: this is asked, not tested. A
- * refusal leaves out as it was; an accepted apply or credit writes its first `length` bytes only. */
+ * will do, NULL too. A refusal leaves out and the book as they were; an accepted apply or credit writes the first
+ * `length` bytes of out only.
+ *
+ * What a call may write (out, *book) overlaps nothing else passed to it: this is asked, not tested. Where it would, as
+ * with a sheet that stands in the book's own memory, copy the sheet out first; examples/overlap.c shows it. */
 #ifndef CREDITS_H
 #define CREDITS_H
 
@@ -33,6 +36,26 @@ typedef struct {
     uint16_t length;
 } credits_answer;
 
+/* The first len bytes, at most 32. */
+typedef struct { uint8_t bytes[32]; uint8_t len; } credits_name;
+
+typedef struct { credits_name subject; credits_amount balance; } credits_place;
+
+/* Credits that have left place `from` and have not reached place `to`. */
+typedef struct { uint8_t from, to; credits_amount amount; } credits_transfer;
+
+/* Bit p of opened: place p is open. Bit t of pending: transfer t is under way. Integers and arrays only: every byte
+ * pattern is a book, and a step refuses one that no steps lead to by number 28. To keep a book, copy its bytes. */
+typedef struct {
+    credits_name unit;
+    uint16_t opened;
+    uint8_t pending;
+    credits_place places[16];
+    credits_transfer transfers[8];
+} credits_book;
+
+typedef struct { credits_answer answer; credits_book book; } credits_started;
+
 credits_given credits_amount_read(const uint8_t *text, size_t text_len);
 uint8_t credits_amount_compare(credits_amount a, credits_amount b); /* 0 less, 1 equal, 2 greater */
 credits_given credits_amount_add(credits_amount a, credits_amount b);
@@ -51,6 +74,20 @@ credits_answer credits_apply(uint8_t profile, uint8_t operation, const uint8_t *
 credits_answer credits_credit(uint8_t operation, const uint8_t *source, size_t source_len, const uint8_t *destination,
                               size_t destination_len, const uint8_t *input, size_t input_len, uint8_t *out,
                               size_t out_len);
+
+/* A fresh book of that unit; a book of zeros where refused. */
+credits_started credits_book_start(const uint8_t *unit, size_t unit_len);
+
+/* The steps, done in the book that is lent. Sheets are input sheets, as check takes them. */
+credits_answer credits_book_open(credits_book *book, uint8_t place, const uint8_t *sheet, size_t sheet_len);
+credits_answer credits_book_act(credits_book *book, uint8_t place, uint8_t operation, const uint8_t *sheet,
+                                size_t sheet_len);
+credits_answer credits_book_begin(credits_book *book, uint8_t from, uint8_t to, uint8_t transfer, const uint8_t *sheet,
+                                  size_t sheet_len);
+credits_answer credits_book_finish(credits_book *book, uint8_t transfer);
+
+/* Equals sizeof(credits_book); where it does not, this header is not the library's. */
+uint32_t credits_book_size(void);
 
 #ifdef __cplusplus
 }

@@ -17,6 +17,9 @@ use amount::Text;
 use profiles::error::Answer;
 use profiles::error::answer_of;
 
+mod book_calls;
+mod session_calls;
+
 #[no_mangle]
 pub extern "C" fn credits_amount_read(text: &[u8]) -> Given
     ensures { λ r. ⌜ r ≡ givenOf (readOf (now (text .entry))) ⌝ }

@@ -10,7 +10,9 @@ use Rattle.book.specs.Sets.{bit, withBit}
 pub bit-shift : (n p : ℕ) → bit n p ≡ n / 2 ^ p % 2
 unfolding bit
 bit-shift n zero = omega arith
-bit-shift n (suc p) = bit-shift (n / 2) p ∙ ap (λ (x : ℕ). x % 2) (div-div-eq-div-mul n 2 (2 ^ p) ∙ ap (λ (x : ℕ). n / x) (mul-comm 2 (2 ^ p) ∙ sym (pow-suc 2 p)))
+bit-shift n (suc p) =
+    bit-shift (n / 2) p
+    ∙ ap (λ (x : ℕ). x % 2) (div-div-eq-div-mul n 2 (2 ^ p) ∙ ap (λ (x : ℕ). n / x) (mul-comm 2 (2 ^ p) ∙ sym (pow-suc 2 p)))
 
 pub bit-mask : (n : ℕ) → bitAnd n 1 ≡ n % 2
 bit-mask n = and-mask n 1

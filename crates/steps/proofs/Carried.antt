@@ -8,37 +8,34 @@ use lib.Dec.{leb, ltb}
 use lib.ListN.{length}
 use borrow.Author.Tests.{leb-true, leb-false}
 use Rattle.amount.specs.Numbers.{val, limit}
-use Rattle.amount.specs.Amounts.{answerOf, differenceOf}
+use Rattle.amount.specs.Amounts.{answerOf, sumOf, differenceOf}
 use Rattle.amount.specs.declared.Amount.{Amount}
 use Rattle.amount.specs.declared.AmountResult.{AmountResult}
 use Rattle.amount.specs.declared.Given.{Given}
-use Rattle.sheet.specs.Fields.{field, subject, balance, amount}
-use Rattle.profiles.specs.Readers.{amountIn}
-use Rattle.profiles.specs.Tests.{first, creates}
-use Rattle.profiles.specs.Balance.{balanceRules}
-use Rattle.places.specs.Places.{closedView}
+use Rattle.sheet.specs.Fields.{subject, amount}
 use Rattle.book.specs.Sets.{has}
-use Rattle.book.specs.Book.{placeRecord, transferRecord, placeAt, isSome, credits, total, nameOk, wellFormed, setCredits, setTransfer}
-use Rattle.book.specs.Steps.{Step, Open, Act, Begin, Finish, creditsIn, bytesIn, seen, answer, after, effect, next, heldAt}
+use Rattle.book.specs.Book.{placeRecord, transferRecord, placeAt, isSome, credits, total, nameOk, wellFormed, blankTransfer, setCredits, setTransfer}
+use Rattle.book.specs.Steps.{Step, Open, Act, Begin, Finish, creditsIn, bytesIn, adds, seen, answer, after, effect, next, heldAt}
 use Rattle.book.specs.declared.Book.{Book}
 use Rattle.book.specs.declared.error.BookError.{BookError}
+use Rattle.book.specs.declared.error.BookOutcome.{BookOutcome}
 use Rattle.book.specs.declared.error.BookOutcome.the-variants.{Accepted, Refused}
 use Rattle.book.proofs.Facts.{Finishes, finishes, acts-so, Begins, begins, Opens, opens, accepted-tests}
 use Rattle.book.proofs.Formed.{Formed, formed, and-r}
 use Rattle.book.proofs.Views.{transfer-raw, home-open, open-lt}
-use Rattle.book.proofs.Effects.{asked, asked-whole, held-part, load-part, begin-takes}
+use Rattle.book.proofs.Effects.{asked, asked-whole, held-part, load-part, act-adds, act-takes, begin-takes}
 use Rattle.steps.proofs.Sums.{place-in}
 use Rattle.steps.proofs.Texts.{given-so}
 
 -- ---- the book after a step
 
-pub next-kept : (b : Book) (s : Step) (e : BookError) → answer b s ≡ Refused e → b ≡ next b s
+pub next-kept : (b : Book) (s : Step) (o : BookOutcome) (e : BookError) → o ≡ answer b s → o ≡ Refused e → b ≡ next b s
 unfolding next
-next-kept b s e h = rw h
+next-kept b s o e h k = rw (← h, k)
 
-pub next-done : (b c : Book) (s : Step) → answer b s ≡ Accepted → c ≡ effect b s → c ≡ next b s
+pub next-done : (b c : Book) (s : Step) (o : BookOutcome) → o ≡ answer b s → o ≡ Accepted → c ≡ effect b s → c ≡ next b s
 unfolding next
-next-done b c s h e = rw h e
+next-done b c s o h k e = rw (← h, k) e
 
 -- ---- finish
 
@@ -65,10 +62,30 @@ module _ (b : Book) (t : ℕ) (h : answer b (Finish t) ≡ Accepted) where
     finish-fits =
         omega (arith, sound .fits, held-part b sound (transferRecord b t .to) finish-to to-here, load-part b sound t (facts .low) (facts .moving))
 
+-- what the code stores: the destination is credited, and the number is free
+pub finish-done : (b : Book) (t : ℕ) (paid : Book)
+    → paid ≡ setCredits b (transferRecord b t .to) (heldAt b (transferRecord b t .to) + credits (transferRecord b t .amount))
+    → setTransfer paid t 0 blankTransfer ≡ effect b (Finish t)
+finish-done b t paid e = rw e
+
 -- ---- act
 
 pub act-low : (b : Book) (p o : ℕ) (i : List ℕ) → answer b (Act p o i) ≡ Accepted → p < 16
 act-low b p o i h = acts-so (seen b) p o i (accepted-tests b (Act p o i) h .1) .low
+
+-- what the code stores: the amount is added or subtracted
+module _ (b : Book) (p o : ℕ) (i : List ℕ) (h : answer b (Act p o i) ≡ Accepted) (a : Amount) (r : AmountResult) (z : Given) where
+  pub act-added : adds o ≡ true → a ≡ asked amount i → r ≡ sumOf (placeRecord b p .balance) a → z ≡ answerOf r
+      → setCredits b p (val (z .amount .mantissa)) ≡ effect b (Act p o i)
+  act-added up e k m =
+      let f : Amount → AmountResult = sumOf (placeRecord b p .balance) in
+      rw (up, given-so r z (heldAt b p + creditsIn amount i) m (k ∙ ap f e ∙ act-adds b p o i h up))
+
+  pub act-taken : adds o ≡ false → a ≡ asked amount i → r ≡ differenceOf (placeRecord b p .balance) a → z ≡ answerOf r
+      → setCredits b p (val (z .amount .mantissa)) ≡ effect b (Act p o i)
+  act-taken down e k m =
+      let f : Amount → AmountResult = differenceOf (placeRecord b p .balance) in
+      rw (down, given-so r z (heldAt b p - creditsIn amount i) m (k ∙ ap f e ∙ act-takes b p o i h down))
 
 -- ---- open
 
@@ -85,11 +102,6 @@ module _ (b : Book) (p : ℕ) (i : List ℕ) (h : answer b (Open p i) ≡ Accept
 pub unit-short : (b : Book) → wellFormed b ≡ true → b .unit .len ≤ 32
 unfolding nameOk
 unit-short b h = leb-true (b .unit .len) 32 (and-r (ltb 0 (b .unit .len)) (leb (b .unit .len) 32) (formed b h .unit))
-
--- create's list is 11's
-pub create-is : (i : List ℕ) → first amountIn closedView (field i) (creates balance) ≡ balanceRules amountIn closedView (field i) 11
-unfolding balanceRules
-create-is i = refl
 
 -- ---- begin
 

@@ -1,5 +1,5 @@
 -- balance.transfer's check with a text put in as to_subject: 9 where it is empty, else debit's list.
-use mathlib.Core.Path.{_≡_, sym, ap}
+use mathlib.Core.Path.{_≡_, sym, _∙_}
 use mathlib.Core.Logic.{_≢_}
 use mathlib.Core.List.{List, _∷_}
 use Prim.Native.Nat.{ℕ}
@@ -18,7 +18,7 @@ use Rattle.places.proofs.Asking.{begin-debits}
 use Rattle.book.specs.Book.{nameBytes, placeRecord}
 use Rattle.book.specs.Steps.{said, seen, checkAt, sentTo}
 use Rattle.book.specs.declared.Book.{Book}
-use Rattle.steps.proofs.Tested.{Here, place-open}
+use Rattle.steps.proofs.Tested.{Here, place-open, checked-at}
 
 module _ (s u : List ℕ) (b : Amount) (inp : ℕ → Field) (d : List ℕ) where
   pub sends-none : length d ≡ 0 → Refused (Empty to-subject) ≡ balanceRules amountIn (placeView s u b) (putField inp to-subject (text d)) 15
@@ -32,7 +32,7 @@ module _ (s u : List ℕ) (b : Amount) (inp : ℕ → Field) (d : List ℕ) wher
 
 -- begin's check of a book, by the code's check at the two places
 pub sent-at : (b : Book) (f g : ℕ) (i : List ℕ) → Here b f → Here b g → (o : Outcome)
-    → ((s u : List ℕ) → o ≡ balanceRules amountIn (placeView s u (placeRecord b f .balance)) (putField (field i) to-subject (text (nameBytes (placeRecord b g .subject)))) 15)
+    → ((s u : List ℕ) → o ≡ balanceRules amountIn (placeView s u (placeRecord b f .balance))
+    (putField (field i) to-subject (text (nameBytes (placeRecord b g .subject)))) 15)
     → said o ≡ checkAt (seen b) f (sentTo (seen b) g i) 15
-sent-at b f g i h k o e =
-    rw (place-open b f h, place-open b g k) (ap said (e (nameBytes (placeRecord b f .subject)) (nameBytes (b .unit))))
+sent-at b f g i h k o e = checked-at b f 15 _ h o e ∙ rw (place-open b g k)

@@ -1,5 +1,5 @@
 -- Sums and tests over indices, a turn of a loop at a time, and sums that may pass 128 bits.
-use mathlib.Core.Path.{_≡_, refl, sym, ap, _∙_}
+use mathlib.Core.Path.{_≡_, refl, sym, ap, ap₂, _∙_}
 use mathlib.Core.Bool.{Bool, true, false, cond, _&&_, false≢true}
 use mathlib.Core.Option.{some, none}
 use Prim.Native.Nat.{ℕ, suc, _+_, _≤_, _<_}
@@ -13,18 +13,18 @@ use Rattle.amount.specs.declared.uint128.Checked.{Checked}
 use Rattle.amount.specs.declared.uint128.Checked.the-variants.{Some, None}
 use Rattle.amount.proofs.Halves.{val-halves, halves-of}
 use Rattle.book.specs.Sets.{has, entry, sum, every}
-use Rattle.book.specs.Book.{placeRecord, transferRecord, placeAt, transferAt, isSome, placeOk, transferOk, balanceOf, loadOf, credits}
+use Rattle.book.specs.Book.{placeRecord, transferRecord, placeAt, transferAt, isSome, placeOk, transferOk, balanceOf, loadOf, balances, loads, total, credits}
 use Rattle.steps.specs.Totals.{more, together}
 use Rattle.book.specs.declared.Book.{Book}
 use Rattle.book.proofs.Tables.{every-at}
 
 -- ---- sums that may pass 128 bits
 
-fits : (n : ℕ) → ltb n limit ≡ true → checked n ≡ Some (halves n)
+pub fits : (n : ℕ) → ltb n limit ≡ true → checked n ≡ Some (halves n)
 unfolding checked
 fits n e = rw e
 
-passes : (n : ℕ) → limit ≤ n → checked n ≡ None
+pub passes : (n : ℕ) → limit ≤ n → checked n ≡ None
 unfolding checked
 passes n h = rw (le-ltb n limit h)
 
@@ -40,7 +40,7 @@ more-is n m = go (ltb n limit) refl
     go false e =
         ap (λ (s : Checked). more s m) (passes n (ltb-false n limit e)) ∙ sym (passes (n + m) (le-trans (ltb-false n limit e) (le-add-right n m)))
 
-pub together-is : (m n : ℕ) → together (checked m) (checked n) ≡ checked (m + n)
+together-is : (m n : ℕ) → together (checked m) (checked n) ≡ checked (m + n)
 together-is m n = go (ltb n limit) refl
   where
     go : (t : Bool) → ltb n limit ≡ t → together (checked m) (checked n) ≡ checked (m + n)
@@ -48,6 +48,10 @@ together-is m n = go (ltb n limit) refl
         ap (together (checked m)) (fits n e) ∙ more-is m (val (halves n)) ∙ ap (λ (k : ℕ). checked (m + k)) (val-halves n)
     go false e =
         ap (together (checked m)) (passes n (ltb-false n limit e)) ∙ sym (passes (m + n) (le-trans (ltb-false n limit e) (le-add-left n m)))
+
+pub total-by : (b : Book) (m n : Checked) → m ≡ checked (balances b) → n ≡ checked (loads b) → together m n ≡ checked (total b)
+unfolding total
+total-by b m n e h = ap₂ together e h ∙ together-is (balances b) (loads b)
 
 -- ---- a turn of a loop
 
@@ -128,7 +132,8 @@ ends-by b t = ap (transferOk b) (transfer-by b t) ∙ go (has (b .pending) t)
     go true = rw (open-by b (transferRecord b t .from), open-by b (transferRecord b t .to))
     go false = refl
 
-pub subject-at : (b : Book) (p : ℕ) (t r : Bool) → t ≡ has (b .opened) p → r ≡ placeOk (cond t (some (placeRecord b p)) none) → r ≡ placeOk (placeAt b p)
+pub subject-at : (b : Book) (p : ℕ) (t r : Bool) → t ≡ has (b .opened) p
+    → r ≡ placeOk (cond t (some (placeRecord b p)) none) → r ≡ placeOk (placeAt b p)
 subject-at b p t r e h = h ∙ rw e (sym (ap placeOk (place-by b p)))
 
 pub ends-at : (b : Book) (p : ℕ) (t r : Bool) → t ≡ has (b .pending) p

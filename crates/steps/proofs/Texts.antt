@@ -1,10 +1,11 @@
--- A name filled byte by byte, and the tests of a step that come last.
+-- A name filled byte by byte, an amount that is there, and the operations of act.
 use mathlib.Core.Path.{_≡_, refl, ap, _∙_}
 use mathlib.Core.Bool.{Bool, true, false, _||_}
 use mathlib.Core.List.{List, [], _∷_, _++_}
 use Prim.Native.Nat.{ℕ, zero, suc, _+_, _-_, _≤_, _<_}
 use native.Mathlib.Nat.{le-of-suc-le-suc, not-suc-le-zero}
 use native.Mathlib.Omega.{arith}
+use lib.Dec.{eqb}
 use lib.ListN.{length, getD, set, take, replicate}
 use Rattle.amount.specs.Numbers.{val}
 use Rattle.amount.specs.Amounts.{answerOf}
@@ -13,11 +14,10 @@ use Rattle.amount.specs.declared.Given.{Given}
 use Rattle.amount.specs.declared.AmountResult.{AmountResult}
 use Rattle.amount.specs.declared.AmountResult.the-variants.{Ok}
 use Rattle.amount.proofs.Halves.{val-halves}
+use Rattle.profiles.specs.Tests.{among}
 use Rattle.book.specs.Book.{nameOf, wholeAmount}
-use Rattle.book.specs.Steps.{firstRefusal}
+use Rattle.book.specs.Steps.{adds, acts}
 use Rattle.book.specs.declared.Name.{Name}
-use Rattle.book.specs.declared.error.BookOutcome.{BookOutcome}
-use Rattle.book.specs.declared.error.BookOutcome.the-variants.{Accepted, Refused}
 
 put-one : (t : List ℕ) (m i : ℕ) → i < length t → set (take i t ++ zeros (suc m)) i (getD t i 0) ≡ take (suc i) t ++ zeros m
 unfolding zeros
@@ -52,10 +52,6 @@ filled-all t b i f h =
     let e : i ≡ length t = omega (arith, f .0) in
     ap {B = Name} (λ (l : List ℕ). record { bytes = l; len = length t }) (f .1 ∙ rw (e, take-whole t))
 
-pub last-test : (o : BookOutcome) → firstRefusal (o ∷ []) ≡ o
-last-test Accepted = refl
-last-test (Refused e) = refl
-
 pub or-none : (t : Bool) → t || false ≡ t
 or-none true = refl
 or-none false = refl
@@ -63,3 +59,22 @@ or-none false = refl
 -- an amount that is there
 pub given-so : (r : AmountResult) (g : Given) (n : ℕ) → g ≡ answerOf r → r ≡ Ok (wholeAmount n) → val (g .amount .mantissa) ≡ n
 given-so r g n e h = ap (λ (x : Given). val (x .amount .mantissa)) (e ∙ ap answerOf h) ∙ val-halves n
+
+-- the operations of act: 12, 13 and 17 add, the rest subtract
+abbrev pub subtracts : ℕ → Bool
+subtracts o = among o (14 ∷ 16 ∷ 18 ∷ 19 ∷ [])
+
+pub acts-by : (o : ℕ) → acts o ≡ adds o || subtracts o
+unfolding acts adds
+acts-by o = go (eqb o 12) (eqb o 13) (eqb o 14) (eqb o 16) (eqb o 17)
+  where
+    go : (a b c d e : Bool) → a || (b || (c || (d || (e || (eqb o 18 || (eqb o 19 || false))))))
+        ≡ (a || (b || (e || false))) || (c || (d || (eqb o 18 || (eqb o 19 || false))))
+    go true b c d e = refl
+    go false true c d e = refl
+    go false false true d true = refl
+    go false false true d false = refl
+    go false false false true true = refl
+    go false false false true false = refl
+    go false false false false true = refl
+    go false false false false false = refl

@@ -27,23 +27,17 @@ fn is_adding(operation: u8) -> bool
     operation == 17
 }
 
-// The operations of act.
+// The operations of act: those that add, and those that subtract.
 fn is_act(operation: u8) -> bool
     ensures { λ r. ⌜ r ≡ acts operation ⌝ }
 {
-    if operation == 12 {
-        return true;
-    }
-    if operation == 13 {
+    if is_adding(operation) {
         return true;
     }
     if operation == 14 {
         return true;
     }
     if operation == 16 {
-        return true;
-    }
-    if operation == 17 {
         return true;
     }
     if operation == 18 {
@@ -56,7 +50,8 @@ fn is_act(operation: u8) -> bool
 pub fn act_outcome(book: Book, place: u8, operation: u8, input: &[u8]) -> BookOutcome
     ensures { λ r. ⌜ r ≡ answer book (Act place operation (now (input .entry))) ⌝ }
 {
-    if !soundness::well_formed(book) {
+    let total = soundness::sound_total(book);
+    if !totals::in_range(total) {
         return BookOutcome::Refused(BookError::BadBook);
     }
     if 15 < place {
@@ -83,7 +78,7 @@ pub fn act_outcome(book: Book, place: u8, operation: u8, input: &[u8]) -> BookOu
     }
     let a = reads::asked(input, sheet::AMOUNT);
     let n = a.mantissa;
-    totals::room(book, n)
+    totals::room(total, n)
 }
 
 // The book after it; a refused one leaves it as it was.
@@ -96,7 +91,7 @@ pub fn act_book(book: Book, place: u8, operation: u8, input: &[u8]) -> Book
     }
 }
 
-fn acted(book: Book, place: u8, operation: u8, input: &[u8]) -> Book
+pub fn acted(book: Book, place: u8, operation: u8, input: &[u8]) -> Book
     requires { ⌜ answer book (Act place operation (now input)) ≡ Accepted ⌝ }
     ensures { λ r. ⌜ r ≡ effect book (Act place operation (now (input .entry))) ⌝ }
 {

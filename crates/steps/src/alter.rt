@@ -2,7 +2,7 @@
 ghost use mathlib.Core.Path.{_≡_};
 ghost use Prim.Native.Nat.{_<_};
 ghost use Rattle.amount.specs.Numbers.{val};
-ghost use Rattle.book.specs.Book.{openPlace, setCredits, setTransfer, blankTransfer};
+ghost use Rattle.book.specs.Book.{wholeAmount, setBalance, openPlace, setCredits, setTransfer, blankTransfer};
 use crate::sets;
 use amount::Amount;
 use amount::Uint128;
@@ -20,6 +20,18 @@ pub fn with_place(mut book: Book, p: u8, x: Place) -> Book
     let opened = sets::with16(book.opened, p);
     book.opened = opened;
     book
+}
+
+// A place with n credits.
+pub fn holding(place: Place, n: Uint128) -> Place
+    ensures { λ r. ⌜ r ≡ setBalance place (wholeAmount (val n)) ⌝ }
+{
+    let subject = place.subject;
+    let balance = Amount {
+        mantissa: n,
+        scale: 0,
+    };
+    Place { subject, balance }
 }
 
 // Place p with n credits.

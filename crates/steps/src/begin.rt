@@ -40,7 +40,8 @@ fn off_the_book(from: u8, to: u8, transfer: u8) -> bool
 // balance.transfer's check with the first bytes of a name as its to_subject.
 fn check_sending(bytes: [u8; 32], len: u8, held: Amount, input: &[u8]) -> Outcome
     requires { ⌜ len ≤ 32 ⌝ }
-    ensures { λ r. ⌜ ((s u : List ℕ) → r ≡ balanceRules amountIn (placeView s u held) (putField (field (now (input .entry))) to-subject (text (take len bytes))) 15) ⌝ }
+    ensures { λ r. ⌜ ((s u : List ℕ) →
+        r ≡ balanceRules amountIn (placeView s u held) (putField (field (now (input .entry))) to-subject (text (take len bytes))) 15) ⌝ }
 {
     let n = len as usize;
     let to_subject = &bytes[..n];
@@ -93,7 +94,7 @@ pub fn begin_book(book: Book, from: u8, to: u8, transfer: u8, input: &[u8]) -> B
     }
 }
 
-fn begun(book: Book, from: u8, to: u8, transfer: u8, input: &[u8]) -> Book
+pub fn begun(book: Book, from: u8, to: u8, transfer: u8, input: &[u8]) -> Book
     requires { ⌜ answer book (Begin from to transfer (now input)) ≡ Accepted ⌝ }
     ensures { λ r. ⌜ r ≡ effect book (Begin from to transfer (now (input .entry))) ⌝ }
 {

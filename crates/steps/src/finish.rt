@@ -2,8 +2,8 @@
 ghost use mathlib.Core.Path.{_≡_};
 ghost use Prim.Native.Nat.{_+_, _<_};
 ghost use Rattle.amount.specs.Numbers.{val, limit};
-ghost use Rattle.book.specs.Book.{setCredits};
-ghost use Rattle.book.specs.Steps.{Finish, answer, next, effect, heldAt};
+ghost use Rattle.book.specs.Book.{credits, setBalance, wholeAmount};
+ghost use Rattle.book.specs.Steps.{Finish, answer, next, effect};
 ghost use Rattle.book.specs.declared.error.BookOutcome.the-variants.{Accepted};
 use crate::alter;
 use crate::sets;
@@ -11,6 +11,7 @@ use crate::soundness;
 use amount::Checked;
 use amount::Uint128;
 use book::Book;
+use book::Place;
 use book::error::BookError;
 use book::error::BookOutcome;
 
@@ -41,29 +42,29 @@ pub fn finish_book(book: Book, t: u8) -> Book
     }
 }
 
-fn finished(book: Book, t: u8) -> Book
+pub fn finished(mut book: Book, t: u8) -> Book
     requires { ⌜ answer book (Finish t) ≡ Accepted ⌝ }
     ensures { λ r. ⌜ r ≡ effect book (Finish t) ⌝ }
 {
     let i = t as usize;
     let r = book.transfers[i];
     let load = r.amount;
-    let paid = credited(book, r.to, load.mantissa);
-    alter::freed(paid, t)
+    let k = r.to as usize;
+    let place = book.places[k];
+    let paid = credited(place, load.mantissa);
+    book.places[k] = paid;
+    alter::freed(book, t)
 }
 
-// Place p with n credits more.
-fn credited(book: Book, p: u8, n: Uint128) -> Book
-    requires { ⌜ p < 16 ⌝ }
-    requires { ⌜ heldAt book p + val n < limit ⌝ }
-    ensures { λ r. ⌜ r ≡ setCredits book p (heldAt book p + val n) ⌝ }
+// A place with n credits more.
+fn credited(place: Place, n: Uint128) -> Place
+    requires { ⌜ credits (place .balance) + val n < limit ⌝ }
+    ensures { λ r. ⌜ r ≡ setBalance place (wholeAmount (credits (place .balance) + val n)) ⌝ }
 {
-    let i = p as usize;
-    let place = book.places[i];
     let held = place.balance;
     let held_now = held.mantissa;
     match held_now.checked_add(n) {
-        Checked::Some(m) => alter::with_credits(book, p, m),
-        Checked::None => book,
+        Checked::Some(m) => alter::holding(place, m),
+        Checked::None => place,
     }
 }

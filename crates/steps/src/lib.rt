@@ -1,7 +1,9 @@
 // The steps of the book by value, each as two functions: what it answers, and the book after it. The contracts cite the
 // definitions that the overlap claim of `book` is about.
 mod act;
+mod after;
 mod alter;
+mod answers;
 mod begin;
 mod finish;
 mod open;
@@ -13,6 +15,15 @@ mod totals;
 
 pub use act::act_book;
 pub use act::act_outcome;
+pub use after::act_after;
+pub use after::begin_after;
+pub use after::finish_after;
+pub use after::open_after;
+pub use answers::act_answer;
+pub use answers::begin_answer;
+pub use answers::finish_answer;
+pub use answers::open_answer;
+pub use answers::start_answer;
 pub use begin::begin_book;
 pub use begin::begin_outcome;
 pub use finish::finish_book;

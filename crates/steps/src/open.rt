@@ -20,7 +20,8 @@ use profiles::registry;
 pub fn open_outcome(book: Book, place: u8, input: &[u8]) -> BookOutcome
     ensures { λ r. ⌜ r ≡ answer book (Open place (now (input .entry))) ⌝ }
 {
-    if !soundness::well_formed(book) {
+    let total = soundness::sound_total(book);
+    if !totals::in_range(total) {
         return BookOutcome::Refused(BookError::BadBook);
     }
     if 15 < place {
@@ -47,7 +48,7 @@ pub fn open_outcome(book: Book, place: u8, input: &[u8]) -> BookOutcome
     }
     let a = reads::asked(input, sheet::BALANCE);
     let n = a.mantissa;
-    totals::room(book, n)
+    totals::room(total, n)
 }
 
 // The book after it; a refused one leaves it as it was.
@@ -60,7 +61,7 @@ pub fn open_book(book: Book, place: u8, input: &[u8]) -> Book
     }
 }
 
-fn opened_at(book: Book, place: u8, input: &[u8]) -> Book
+pub fn opened_at(book: Book, place: u8, input: &[u8]) -> Book
     requires { ⌜ answer book (Open place (now input)) ≡ Accepted ⌝ }
     ensures { λ r. ⌜ r ≡ effect book (Open place (now (input .entry))) ⌝ }
 {

@@ -4,6 +4,7 @@ ghost use mathlib.Core.Bool.{true, cond, _&&_};
 ghost use mathlib.Core.Option.{some, none};
 ghost use lib.Dec.{eqb};
 ghost use Rattle.book.specs.Sets.{has, every};
+ghost use Rattle.steps.specs.Totals.{partsOk, soundTotal};
 ghost use Rattle.book.specs.Book.{nameOk, placeOk, transferOk, placeAt, transferAt, placeRecord, transferRecord, wellFormed};
 use crate::sets;
 use crate::totals;
@@ -105,13 +106,10 @@ fn transfers_ok(book: Book) -> bool
     true
 }
 
-// Whether a book passes test 28.
-pub fn well_formed(book: Book) -> bool
-    ensures { λ r. ⌜ r ≡ wellFormed book ⌝ }
+// What test 28 asks besides the total.
+fn parts_ok(book: Book) -> bool
+    ensures { λ r. ⌜ r ≡ partsOk book ⌝ }
 {
-    if let Checked::None = totals::book_total(book) {
-        return false;
-    }
     let unit = book.unit;
     if !name_ok(unit) {
         return false;
@@ -126,4 +124,21 @@ pub fn well_formed(book: Book) -> bool
         return false;
     }
     transfers_ok(book)
+}
+
+// The total of a book that passes test 28. One function for 28 and 25, so that the book is gone through once.
+pub fn sound_total(book: Book) -> Checked
+    ensures { λ r. ⌜ r ≡ soundTotal book ⌝ }
+{
+    if !parts_ok(book) {
+        return Checked::None;
+    }
+    totals::book_total(book)
+}
+
+// Whether a book passes test 28.
+pub fn well_formed(book: Book) -> bool
+    ensures { λ r. ⌜ r ≡ wellFormed book ⌝ }
+{
+    totals::in_range(sound_total(book))
 }

@@ -1,12 +1,11 @@
 // The total of a book: the open places' balances and the loads under way, where 128 bits hold it.
 ghost use mathlib.Core.Path.{_≡_};
-ghost use Prim.Native.Nat.{_+_};
-ghost use lib.Dec.{leb};
-ghost use Rattle.amount.specs.Numbers.{val, limit, checked};
+ghost use mathlib.Core.Bool.{not};
+ghost use Rattle.amount.specs.Numbers.{val, checked};
 ghost use Rattle.book.specs.Book.{balances, loads, total};
 ghost use Rattle.book.specs.Steps.{refusedIf};
 ghost use Rattle.book.specs.declared.error.BookError.the-variants.{TooMuch};
-ghost use Rattle.steps.specs.Totals.{more, together};
+ghost use Rattle.steps.specs.Totals.{more, together, inRange};
 use crate::sets;
 use amount::Checked;
 use amount::Uint128;
@@ -76,12 +75,21 @@ pub fn book_total(book: Book) -> Checked
     join(held, moving)
 }
 
-// 25: n credits more.
-pub fn room(book: Book, n: Uint128) -> BookOutcome
-    ensures { λ r. ⌜ r ≡ refusedIf (leb limit (total book + val n)) TooMuch ⌝ }
+pub fn in_range(sum: Checked) -> bool
+    ensures { λ r. ⌜ r ≡ inRange sum ⌝ }
 {
-    match plus(book_total(book), n) {
-        Checked::Some(_) => BookOutcome::Accepted,
-        Checked::None => BookOutcome::Refused(BookError::TooMuch),
+    match sum {
+        Checked::Some(_) => true,
+        Checked::None => false,
     }
+}
+
+// 25: n credits more than a total.
+pub fn room(sum: Checked, n: Uint128) -> BookOutcome
+    ensures { λ r. ⌜ r ≡ refusedIf (not (inRange (more sum (val n)))) TooMuch ⌝ }
+{
+    if !in_range(plus(sum, n)) {
+        return BookOutcome::Refused(BookError::TooMuch);
+    }
+    BookOutcome::Accepted
 }

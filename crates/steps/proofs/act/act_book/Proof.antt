@@ -1,9 +1,12 @@
 use Rattle.steps.proofs.Carried.{next-done, next-kept}
-use Rattle.book.specs.Steps.{Act}
+use Rattle.book.specs.Steps.{Step, Act}
 use mathlib.Core.Path.{sym, _∙_}
 use borrow.Author.Needs.{needs}
 use Rattle.steps.proofs.act.act_book.Statement.{statement}
 use Rattle.steps.proofs.act.act_book.Tie as tie
+
+abbrev step : tie.Start → Step
+step c = Act (c .args .place) (c .args .operation) (c .args .input .now)
 
 act-outcome-requires : tie.Need-act-outcome-requires
 act-outcome-requires c κs = search needs
@@ -18,10 +21,14 @@ enum-told-2 : tie.Need-enum-told-2
 enum-told-2 c = search needs
 
 returns : tie.Need-returns
-returns c = next-done (c .before .before .before .before .before .args .book) _ (Act (c .before .before .before .before .before .args .place) (c .before .before .before .before .before .args .operation) (c .before .before .before .before .before .args .input .now)) (sym (c .before .before .before .act-outcome .ensures) ∙ c .before .enum-told .given .1) (c .acted .ensures)
+returns c =
+    let x = c .before .before .before .before .before in
+    next-done (x .args .book) _ (step x) _ (c .before .before .before .act-outcome .ensures) (c .before .enum-told .given .1) (c .acted .ensures)
 
 returns-2 : tie.Need-returns-2
-returns-2 c = next-kept (c .before .before .before .before .args .book) (Act (c .before .before .before .before .args .place) (c .before .before .before .before .args .operation) (c .before .before .before .before .args .input .now)) _ (sym (c .before .before .act-outcome .ensures) ∙ c .enum-told2 .given .1)
+returns-2 c =
+    let x = c .before .before .before .before in
+    next-kept (x .args .book) (step x) _ _ (c .before .before .act-outcome .ensures) (c .enum-told2 .given .1)
 
 pub act-book-spec : {M : Type 1} → statement M
 act-book-spec =

@@ -1,18 +1,19 @@
-use Rattle.book.proofs.Effects.{act-adds, act-takes}
-use Rattle.steps.proofs.Texts.{given-so}
-use Rattle.steps.proofs.Carried.{act-low}
-use Rattle.amount.specs.Amounts.{sumOf, differenceOf}
-use Rattle.book.specs.Book.{setCredits, placeRecord}
-use mathlib.Core.Path.{sym, ap, _∙_}
+use Rattle.steps.proofs.Carried.{act-low, act-added, act-taken}
+use Rattle.book.specs.Book.{placeRecord}
+use Prim.Native.Nat.{_<_}
+use mathlib.Core.Path.{sym, _∙_}
 use borrow.Author.Needs.{needs}
 use Rattle.steps.proofs.act.acted.Statement.{statement}
 use Rattle.steps.proofs.act.acted.Tie as tie
+
+low : (c : tie.Start) → c .args .place < 16
+low c = act-low (c .args .t1) (c .args .place) (c .args .operation) (c .args .input .now) (c .pre)
 
 mul-x : tie.Need-mul-x
 mul-x c = search needs
 
 element-copy-out-x : tie.Need-element-copy-out-x
-element-copy-out-x c = act-low (c .before .args .t1) (c .before .args .place) (c .before .args .operation) (c .before .args .input .now) (c .before .pre)
+element-copy-out-x c = low (c .before)
 
 asked-requires : tie.Need-asked-requires
 asked-requires c κs = search needs
@@ -27,11 +28,16 @@ given-requires : tie.Need-given-requires
 given-requires c κs = search needs
 
 with-credits-requires : tie.Need-with-credits-requires
-with-credits-requires c κs = act-low (c .before .before .before .before .before .before .before .before .before .args .t1) (c .before .before .before .before .before .before .before .before .before .args .place) (c .before .before .before .before .before .before .before .before .before .args .operation) (c .before .before .before .before .before .before .before .before .before .args .input .now) (c .before .before .before .before .before .before .before .before .before .pre)
+with-credits-requires c κs = low (c .before .before .before .before .before .before .before .before .before)
 
 returns : tie.Need-returns
 unfolding placeRecord
-returns c = rw (sym (c .before .before .before .before .before .is-adding .ensures) ∙ c .before .before .before .before .if1 .taken) (c .with-credits .ensures ∙ ap (setCredits (c .before .before .before .before .before .before .before .before .before .before .args .t1) (c .before .before .before .before .before .before .before .before .before .before .args .place)) (given-so _ _ _ (c .before .before .given .ensures) (c .before .before .before .checked-add .ensures ∙ ap (sumOf (placeRecord (c .before .before .before .before .before .before .before .before .before .before .args .t1) (c .before .before .before .before .before .before .before .before .before .before .args .place) .balance)) (c .before .before .before .before .before .before .asked .ensures) ∙ act-adds (c .before .before .before .before .before .before .before .before .before .before .args .t1) (c .before .before .before .before .before .before .before .before .before .before .args .place) (c .before .before .before .before .before .before .before .before .before .before .args .operation) (c .before .before .before .before .before .before .before .before .before .before .args .input .now) (c .before .before .before .before .before .before .before .before .before .before .pre) (sym (c .before .before .before .before .before .is-adding .ensures) ∙ c .before .before .before .before .if1 .taken))))
+returns c =
+    let x = c .before .before .before .before .before .before .before .before .before .before in
+    c .with-credits .ensures
+    ∙ act-added (x .args .t1) (x .args .place) (x .args .operation) (x .args .input .now) (x .pre) _ _ _
+    (sym (c .before .before .before .before .before .is-adding .ensures) ∙ c .before .before .before .before .if1 .taken)
+    (c .before .before .before .before .before .before .asked .ensures) (c .before .before .before .checked-add .ensures) (c .before .before .given .ensures)
 
 checked-sub-requires : tie.Need-checked-sub-requires
 checked-sub-requires c κs = search needs
@@ -40,11 +46,16 @@ given-requires-2 : tie.Need-given-requires-2
 given-requires-2 c κs = search needs
 
 with-credits-requires-2 : tie.Need-with-credits-requires-2
-with-credits-requires-2 c κs = act-low (c .before .before .before .before .before .before .before .before .before .args .t1) (c .before .before .before .before .before .before .before .before .before .args .place) (c .before .before .before .before .before .before .before .before .before .args .operation) (c .before .before .before .before .before .before .before .before .before .args .input .now) (c .before .before .before .before .before .before .before .before .before .pre)
+with-credits-requires-2 c κs = low (c .before .before .before .before .before .before .before .before .before)
 
 returns-2 : tie.Need-returns-2
 unfolding placeRecord
-returns-2 c = rw (sym (c .before .before .before .before .before .is-adding .ensures) ∙ c .before .before .before .before .if1 .left) (c .with-credits2 .ensures ∙ ap (setCredits (c .before .before .before .before .before .before .before .before .before .before .args .t1) (c .before .before .before .before .before .before .before .before .before .before .args .place)) (given-so _ _ _ (c .before .before .given2 .ensures) (c .before .before .before .checked-sub .ensures ∙ ap (differenceOf (placeRecord (c .before .before .before .before .before .before .before .before .before .before .args .t1) (c .before .before .before .before .before .before .before .before .before .before .args .place) .balance)) (c .before .before .before .before .before .before .asked .ensures) ∙ act-takes (c .before .before .before .before .before .before .before .before .before .before .args .t1) (c .before .before .before .before .before .before .before .before .before .before .args .place) (c .before .before .before .before .before .before .before .before .before .before .args .operation) (c .before .before .before .before .before .before .before .before .before .before .args .input .now) (c .before .before .before .before .before .before .before .before .before .before .pre) (sym (c .before .before .before .before .before .is-adding .ensures) ∙ c .before .before .before .before .if1 .left))))
+returns-2 c =
+    let x = c .before .before .before .before .before .before .before .before .before .before in
+    c .with-credits2 .ensures
+    ∙ act-taken (x .args .t1) (x .args .place) (x .args .operation) (x .args .input .now) (x .pre) _ _ _
+    (sym (c .before .before .before .before .before .is-adding .ensures) ∙ c .before .before .before .before .if1 .left)
+    (c .before .before .before .before .before .before .asked .ensures) (c .before .before .before .checked-sub .ensures) (c .before .before .given2 .ensures)
 
 pub acted-spec : {M : Type 1} → statement M
 acted-spec =

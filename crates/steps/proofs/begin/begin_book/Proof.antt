@@ -21,10 +21,14 @@ enum-told-2 : tie.Need-enum-told-2
 enum-told-2 c = search needs
 
 returns : tie.Need-returns
-returns c = next-done (c .before .before .before .before .before .args .book) _ (step (c .before .before .before .before .before)) (sym (c .before .before .before .begin-outcome .ensures) ∙ c .before .enum-told .given .1) (c .begun .ensures)
+returns c =
+    let x = c .before .before .before .before .before in
+    next-done (x .args .book) _ (step x) _ (c .before .before .before .begin-outcome .ensures) (c .before .enum-told .given .1) (c .begun .ensures)
 
 returns-2 : tie.Need-returns-2
-returns-2 c = next-kept (c .before .before .before .before .args .book) (step (c .before .before .before .before)) _ (sym (c .before .before .begin-outcome .ensures) ∙ c .enum-told2 .given .1)
+returns-2 c =
+    let x = c .before .before .before .before in
+    next-kept (x .args .book) (step x) _ _ (c .before .before .begin-outcome .ensures) (c .enum-told2 .given .1)
 
 pub begin-book-spec : {M : Type 1} → statement M
 begin-book-spec =

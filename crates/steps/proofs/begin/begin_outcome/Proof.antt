@@ -1,7 +1,8 @@
 use Rattle.steps.proofs.Tested.{Past, past-28, bad-book, pass, stop, last, ends-there, number-busy, Here, both-here}
 use Rattle.steps.proofs.Sending.{sent-at}
 use Rattle.steps.proofs.Carried.{low-ends, subject-short}
-use Rattle.book.specs.Steps.{Step, Begin, testsBegin, said}
+use Rattle.book.specs.Sets.{has}
+use Rattle.book.specs.Steps.{Begin, testsBegin, said}
 use Rattle.book.specs.Book.{nameBytes, placeRecord, wellFormed}
 use borrow.Author.Tests.{not-true, not-false, eq-eqb, ne-eqb}
 use Prim.Native.Nat.{ℕ, _≤_, _<_}
@@ -11,7 +12,7 @@ use borrow.Author.Needs.{needs}
 use Rattle.steps.proofs.begin.begin_outcome.Statement.{statement}
 use Rattle.steps.proofs.begin.begin_outcome.Tie as tie
 
--- ---- the tests passed, each at its place
+-- ---- the tests passed, each at its place: 28, 22, 24, 21, 6, 2
 
 abbrev Left : tie.Start → ℕ → Type 0
 Left c n = Past (c .args .t1) (Begin (c .args .from) (c .args .to) (c .args .transfer) (c .args .input .now)) n
@@ -45,9 +46,13 @@ past-3 : (c : tie.Else3) → Left (start-3 c) 3
 unfolding testsBegin
 past-3 c = pass (past-2 (c .before)) (rw (ne-eqb _ _ (c .if3 .left)))
 
+-- 21 is asked of the book's own set
+busy : (c : tie.After-has8) → c .has8 .result ≡ has (start-3 (c .before) .args .t1 .pending) (start-3 (c .before) .args .transfer)
+busy c = c .has8 .ensures
+
 past-4 : (c : tie.Else4) → Left (start-4 c) 4
 unfolding testsBegin
-past-4 c = pass (past-3 (c .before .before)) (rw (number-busy _ _, sym (c .before .has8 .ensures) ∙ c .if4 .left))
+past-4 c = pass (past-3 (c .before .before)) (rw (number-busy _ _, sym (busy (c .before)) ∙ c .if4 .left))
 
 past-5 : (c : tie.Else5) → Left (start-5 c) 5
 unfolding testsBegin
@@ -100,7 +105,7 @@ has8-requires c κs = search needs
 
 returns-4 : tie.Need-returns-4
 unfolding testsBegin
-returns-4 c = stop (past-3 (c .before .before)) _ (rw (number-busy _ _, sym (c .before .has8 .ensures) ∙ c .if4 .taken))
+returns-4 c = stop (past-3 (c .before .before)) _ (rw (number-busy _ _, sym (busy (c .before)) ∙ c .if4 .taken))
 
 both16-requires : tie.Need-both16-requires
 both16-requires c κs = search needs
@@ -117,7 +122,9 @@ enum-known-e c = search needs
 
 returns-6 : tie.Need-returns-6
 unfolding testsBegin
-returns-6 c = stop (past-5 (c .before .before .before .before)) _ (ap said (sym (c .before .before .before .require-sound-input .ensures) ∙ c .before .e .given .1))
+returns-6 c =
+    stop (past-5 (c .before .before .before .before)) _
+    (ap said (sym (c .before .before .before .require-sound-input .ensures) ∙ c .before .e .given .1))
 
 enum-told : tie.Need-enum-told
 enum-told c = search needs

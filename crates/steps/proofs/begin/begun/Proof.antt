@@ -40,7 +40,9 @@ returns c =
     let x = c .before .before .before .before .before .before .before .before .before in
     c .with-transfer .ensures
     ∙ begin-done (x .args .t1) (x .args .from) (x .args .to) (x .args .transfer) (x .args .input .now) (x .pre) _ _ _ _
-    (c .before .before .before .before .before .asked .ensures) (c .before .before .before .before .checked-sub .ensures) (c .before .before .before .given .ensures) (c .before .with-credits .ensures)
+    (c .before .before .before .before .before .asked .ensures)
+    (c .before .before .before .before .checked-sub .ensures)
+    (c .before .before .before .given .ensures) (c .before .with-credits .ensures)
 
 pub begun-spec : {M : Type 1} → statement M
 begun-spec =

@@ -1,9 +1,12 @@
 use Rattle.steps.proofs.Carried.{next-done, next-kept}
-use Rattle.book.specs.Steps.{Open}
+use Rattle.book.specs.Steps.{Step, Open}
 use mathlib.Core.Path.{sym, _∙_}
 use borrow.Author.Needs.{needs}
 use Rattle.steps.proofs.open.open_book.Statement.{statement}
 use Rattle.steps.proofs.open.open_book.Tie as tie
+
+abbrev step : tie.Start → Step
+step c = Open (c .args .place) (c .args .input .now)
 
 open-outcome-requires : tie.Need-open-outcome-requires
 open-outcome-requires c κs = search needs
@@ -18,10 +21,14 @@ enum-told-2 : tie.Need-enum-told-2
 enum-told-2 c = search needs
 
 returns : tie.Need-returns
-returns c = next-done (c .before .before .before .before .before .args .book) _ (Open (c .before .before .before .before .before .args .place) (c .before .before .before .before .before .args .input .now)) (sym (c .before .before .before .open-outcome .ensures) ∙ c .before .enum-told .given .1) (c .opened-at .ensures)
+returns c =
+    let x = c .before .before .before .before .before in
+    next-done (x .args .book) _ (step x) _ (c .before .before .before .open-outcome .ensures) (c .before .enum-told .given .1) (c .opened-at .ensures)
 
 returns-2 : tie.Need-returns-2
-returns-2 c = next-kept (c .before .before .before .before .args .book) (Open (c .before .before .before .before .args .place) (c .before .before .before .before .args .input .now)) _ (sym (c .before .before .open-outcome .ensures) ∙ c .enum-told2 .given .1)
+returns-2 c =
+    let x = c .before .before .before .before in
+    next-kept (x .args .book) (step x) _ _ (c .before .before .open-outcome .ensures) (c .enum-told2 .given .1)
 
 pub open-book-spec : {M : Type 1} → statement M
 open-book-spec =

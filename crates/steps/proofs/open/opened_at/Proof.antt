@@ -15,17 +15,24 @@ text-requires c κs = search needs
 
 name-of-requires : tie.Need-name-of-requires
 unfolding bytesIn
-name-of-requires c κs = rw (c .text .ensures) (open-short (c .before .before .args .book) (c .before .before .args .place) (c .before .before .args .input .now) (c .before .before .pre))
+name-of-requires c κs =
+    let x = c .before .before in
+    rw (c .text .ensures) (open-short (x .args .book) (x .args .place) (x .args .input .now) (x .pre))
 
 asked-requires : tie.Need-asked-requires
 asked-requires c κs = search needs
 
 with-place-requires : tie.Need-with-place-requires
-with-place-requires c κs = open-low (c .before .before .before .before .args .book) (c .before .before .before .before .args .place) (c .before .before .before .before .args .input .now) (c .before .before .before .before .pre)
+with-place-requires c κs = let x = c .before .before .before .before in open-low (x .args .book) (x .args .place) (x .args .input .now) (x .pre)
 
 returns : tie.Need-returns
 unfolding bytesIn
-returns c = c .with-place .ensures ∙ ap₂ (λ (n : Name) (x : Amount). openPlace (c .before .before .before .before .before .args .book) (c .before .before .before .before .before .args .place) (record { subject = n; balance = x })) (c .before .before .name-of .ensures ∙ ap nameOf (c .before .before .before .text .ensures)) (c .before .asked .ensures ∙ asked-whole balance (c .before .before .before .before .before .args .input .now))
+returns c =
+    let x = c .before .before .before .before .before .args in
+    c .with-place .ensures
+    ∙ ap₂ (λ (n : Name) (a : Amount). openPlace (x .book) (x .place) (record { subject = n; balance = a }))
+    (c .before .before .name-of .ensures ∙ ap nameOf (c .before .before .before .text .ensures))
+    (c .before .asked .ensures ∙ asked-whole balance (x .input .now))
 
 pub opened-at-spec : {M : Type 1} → statement M
 opened-at-spec =

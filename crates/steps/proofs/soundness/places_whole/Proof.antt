@@ -21,6 +21,12 @@ Inv-loop book i₀ i = (i ≤ 16) × (every (test book) i ≡ true)
 abbrev μ-loop : tie.MeasureT-loop
 μ-loop book i₀ i = 16 - i
 
+-- a turn that goes on has met a scale of 0
+whole : (c : tie.Else1 Inv-loop μ-loop)
+    → placeRecord (c .before .before .before .before .before .before .args .t1) (c .before .before .before .before .before .loop .i) .balance .scale ≡ 0
+unfolding placeRecord
+whole c = c .if1 .left
+
 loop-holds : tie.Need-loop-holds Inv-loop μ-loop
 loop-holds c = (search needs, every-none (test (c .args .t1)))
 
@@ -32,7 +38,10 @@ element-copy-out-p c = search needs
 
 returns : tie.Need-returns Inv-loop μ-loop
 unfolding placeRecord
-returns c = sym (every-false (test (c .before .before .before .before .before .before .args .t1)) 16 (c .before .before .before .before .before .loop .i) (c .before .before .before .before .loop-test .taken) (ne-eqb (placeRecord (c .before .before .before .before .before .before .args .t1) (c .before .before .before .before .before .loop .i) .balance .scale) 0 (c .if1 .taken)))
+returns c =
+    let b = c .before .before .before .before .before .before .args .t1 in
+    let i = c .before .before .before .before .before .loop .i in
+    sym (every-false (test b) 16 i (c .before .before .before .before .loop-test .taken) (ne-eqb (placeRecord b i .balance .scale) 0 (c .if1 .taken)))
 
 add-i : tie.Need-add-i Inv-loop μ-loop
 add-i c = search needs
@@ -41,8 +50,10 @@ loop-less : tie.Need-loop-less Inv-loop μ-loop
 loop-less c = search needs
 
 loop-again : tie.Need-loop-again Inv-loop μ-loop
-unfolding placeRecord
-loop-again c = (search needs, every-next (test (c .before .before .before .before .before .before .args .t1)) (c .before .before .before .before .before .loop .i) (c .before .before .before .before .before .loop .inv .1) (eq-eqb (placeRecord (c .before .before .before .before .before .before .args .t1) (c .before .before .before .before .before .loop .i) .balance .scale) 0 (c .if1 .left)))
+loop-again c =
+    let b = c .before .before .before .before .before .before .args .t1 in
+    let i = c .before .before .before .before .before .loop .i in
+    (search needs, every-next (test b) i (c .before .before .before .before .before .loop .inv .1) (eq-eqb _ 0 (whole c)))
 
 returns-2 : tie.Need-returns-2 Inv-loop μ-loop
 returns-2 c = sym (ap (every (test (c .before .before .args .t1))) (omega arith) ∙ c .before .loop .inv .1)

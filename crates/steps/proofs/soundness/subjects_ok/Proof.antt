@@ -40,7 +40,11 @@ place-ok-requires c κs = search needs
 
 returns : tie.Need-returns Inv-loop μ-loop
 unfolding placeRecord
-returns c = sym (every-false (test (c .before .before .before .before .before .before .args .t1)) 16 (c .before .before .before .before .before .loop .i) (c .before .before .before .before .loop-test .taken) (sym (subject-at (c .before .before .before .before .before .before .args .t1) (c .before .before .before .before .before .loop .i) _ _ (c .before .before .has16 .ensures) (c .before .place-ok .ensures)) ∙ not-true _ (c .if1 .taken)))
+returns c =
+    let b = c .before .before .before .before .before .before .args .t1 in
+    let i = c .before .before .before .before .before .loop .i in
+    let e = subject-at b i _ _ (c .before .before .has16 .ensures) (c .before .place-ok .ensures) in
+    sym (every-false (test b) 16 i (c .before .before .before .before .loop-test .taken) (sym e ∙ not-true _ (c .if1 .taken)))
 
 add-i : tie.Need-add-i Inv-loop μ-loop
 add-i c = search needs
@@ -50,7 +54,11 @@ loop-less c = search needs
 
 loop-again : tie.Need-loop-again Inv-loop μ-loop
 unfolding placeRecord
-loop-again c = (search needs, every-next (test (c .before .before .before .before .before .before .args .t1)) (c .before .before .before .before .before .loop .i) (c .before .before .before .before .before .loop .inv .1) (sym (subject-at (c .before .before .before .before .before .before .args .t1) (c .before .before .before .before .before .loop .i) _ _ (c .before .before .has16 .ensures) (c .before .place-ok .ensures)) ∙ not-false _ (c .if1 .left)))
+loop-again c =
+    let b = c .before .before .before .before .before .before .args .t1 in
+    let i = c .before .before .before .before .before .loop .i in
+    let e = subject-at b i _ _ (c .before .before .has16 .ensures) (c .before .place-ok .ensures) in
+    (search needs, every-next (test b) i (c .before .before .before .before .before .loop .inv .1) (sym e ∙ not-false _ (c .if1 .left)))
 
 returns-2 : tie.Need-returns-2 Inv-loop μ-loop
 returns-2 c = sym (ap (every (test (c .before .before .args .t1))) (omega arith) ∙ c .before .loop .inv .1)

@@ -1,7 +1,6 @@
-use Rattle.steps.proofs.Sums.{together-is}
 use Rattle.steps.specs.Totals.{together}
-use Rattle.book.specs.Book.{balances, loads, total}
-use mathlib.Core.Path.{ap₂, _∙_}
+use Rattle.steps.proofs.Sums.{total-by}
+use mathlib.Core.Path.{_≡_, _∙_}
 use borrow.Author.Needs.{needs}
 use Rattle.steps.proofs.totals.book_total.Statement.{statement}
 use Rattle.steps.proofs.totals.book_total.Tie as tie
@@ -15,9 +14,13 @@ transfers-total-requires c κs = search needs
 join-requires : tie.Need-join-requires
 join-requires c κs = search needs
 
+joins : (c : tie.After-join) → c .join .result ≡ together (c .before .before .places-total .result) (c .before .transfers-total .result)
+joins c = c .join .ensures
+
 returns : tie.Need-returns
-unfolding total
-returns c = c .join .ensures ∙ ap₂ together (c .before .before .places-total .ensures) (c .before .transfers-total .ensures) ∙ together-is (balances (c .before .before .before .args .book)) (loads (c .before .before .before .args .book))
+returns c =
+    joins c
+    ∙ total-by (c .before .before .before .args .book) _ _ (c .before .before .places-total .ensures) (c .before .transfers-total .ensures)
 
 pub book-total-spec : {M : Type 1} → statement M
 book-total-spec =

@@ -46,7 +46,16 @@ loop-less c = search needs
 
 loop-again : tie.Need-loop-again Inv-loop μ-loop
 unfolding placeRecord
-loop-again c = (search needs, ⊎-elim (λ w. w .4 ∙ w .3 .ensures ∙ sum-more (part (c .before .before .before .before .args .t1)) (c .before .before .before .loop .i) _ _ (c .before .before .before .loop .inv .1) (held-in (c .before .before .before .before .args .t1) (c .before .before .before .loop .i) (sym (c .before .has16 .ensures) ∙ w .0 .taken))) (λ w. w .1 ∙ sum-skip (part (c .before .before .before .before .args .t1)) (c .before .before .before .loop .i) _ (c .before .before .before .loop .inv .1) (held-out (c .before .before .before .before .args .t1) (c .before .before .before .loop .i) (sym (c .before .has16 .ensures) ∙ w .0 .left))) (c .if1 .came))
+loop-again c =
+    let b = c .before .before .before .before .args .t1 in
+    let i = c .before .before .before .loop .i in
+    let so = c .before .before .before .loop .inv .1 in (
+      search needs,
+      ⊎-elim
+          (λ w. w .4 ∙ w .3 .ensures ∙ sum-more (part b) i _ _ so (held-in b i (sym (c .before .has16 .ensures) ∙ w .0 .taken)))
+          (λ w. w .1 ∙ sum-skip (part b) i _ so (held-out b i (sym (c .before .has16 .ensures) ∙ w .0 .left)))
+          (c .if1 .came),
+    )
 
 returns : tie.Need-returns Inv-loop μ-loop
 unfolding balances

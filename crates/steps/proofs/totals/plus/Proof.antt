@@ -19,7 +19,9 @@ checked-add-requires : tie.Need-checked-add-requires
 checked-add-requires c κs = search needs
 
 returns-2 : tie.Need-returns-2
-returns-2 c = c .checked-add .ensures ∙ ap (λ (s : Checked). more s (val (c .before .before .before .before .args .n))) (sym (c .before .before .sum .given .1))
+returns-2 c =
+    let n = val (c .before .before .before .before .args .n) in
+    c .checked-add .ensures ∙ ap (λ (s : Checked). more s n) (sym (c .before .before .sum .given .1))
 
 pub plus-spec : {M : Type 1} → statement M
 plus-spec = tie.close (tie.spec enum-known-sum enum-told returns checked-add-requires returns-2)

@@ -1,0 +1,82 @@
+// The book behind C: a book is lent and one step is done in it. A refused step leaves it as it was.
+ghost use mathlib.Core.Path.{_≡_};
+ghost use Rattle.book.specs.Refusals.{answerOf};
+ghost use Rattle.book.specs.Steps.{Open, Act, Begin, Finish, answer, next, startAnswer, startBook};
+use book::Book;
+use profiles::error::Answer;
+
+#[repr(C)]
+pub struct Started {
+    pub answer: Answer,
+    pub book: Book,
+}
+
+// A refused start gives a book of zeros.
+#[no_mangle]
+pub extern "C" fn credits_book_start(unit: &[u8]) -> Started
+    ensures { λ r. ⌜ r ≡ record { answer = answerOf (startAnswer (now (unit .entry))); book = startBook (now (unit .entry)) } ⌝ }
+{
+    Started {
+        answer: steps::start_answer(unit),
+        book: steps::start_book(unit),
+    }
+}
+
+// The bytes of a book, for C to compare with its own.
+#[no_mangle]
+pub extern "C" fn credits_book_size() -> u32
+    ensures { λ r. ⌜ r ≡ 1320 ⌝ }
+{
+    1320
+}
+
+#[no_mangle]
+pub extern "C" fn credits_book_open(book: &mut Book, place: u8, sheet: &[u8]) -> Answer
+    ensures { λ r. ⌜ (r ≡ answerOf (answer (now (book .entry)) (Open place (now (sheet .entry)))))
+        × (now (book .exit) ≡ next (now (book .entry)) (Open place (now (sheet .entry)))) ⌝ }
+{
+    let a = steps::open_answer(*book, place, sheet);
+    *book = steps::open_after(*book, place, a.number, sheet);
+    a
+}
+
+#[no_mangle]
+pub extern "C" fn credits_book_act(
+    book: &mut Book,
+    place: u8,
+    operation: u8,
+    sheet: &[u8],
+) -> Answer
+    ensures { λ r. ⌜ (r ≡ answerOf (answer (now (book .entry)) (Act place operation (now (sheet .entry)))))
+        × (now (book .exit) ≡ next (now (book .entry)) (Act place operation (now (sheet .entry)))) ⌝ }
+{
+    let a = steps::act_answer(*book, place, operation, sheet);
+    *book = steps::act_after(*book, place, operation, a.number, sheet);
+    a
+}
+
+#[no_mangle]
+pub extern "C" fn credits_book_begin(
+    book: &mut Book,
+    from: u8,
+    to: u8,
+    transfer: u8,
+    sheet: &[u8],
+) -> Answer
+    ensures { λ r. ⌜ (r ≡ answerOf (answer (now (book .entry)) (Begin from to transfer (now (sheet .entry)))))
+        × (now (book .exit) ≡ next (now (book .entry)) (Begin from to transfer (now (sheet .entry)))) ⌝ }
+{
+    let a = steps::begin_answer(*book, from, to, transfer, sheet);
+    *book = steps::begin_after(*book, from, to, transfer, a.number, sheet);
+    a
+}
+
+#[no_mangle]
+pub extern "C" fn credits_book_finish(book: &mut Book, transfer: u8) -> Answer
+    ensures { λ r. ⌜ (r ≡ answerOf (answer (now (book .entry)) (Finish transfer)))
+        × (now (book .exit) ≡ next (now (book .entry)) (Finish transfer)) ⌝ }
+{
+    let a = steps::finish_answer(*book, transfer);
+    *book = steps::finish_after(*book, transfer, a.number);
+    a
+}
