@@ -17,7 +17,7 @@ use book::Place;
 use session::Run;
 use session::StepAnswer;
 
-// What step k answered.
+// What step k answered: three numbers below 1,000, two spaces and a line feed.
 fn put_step(out: &mut [u8], at: usize, k: u16, a: StepAnswer) -> usize
     requires { ⌜ (k < 1000) × (at + 12 < 65536) ⌝ }
     ensures { λ r. ⌜ (r ≤ at + 12) × Wrote (now (out .entry)) at (stepLine k a) (now (out .exit)) r ⌝ }
@@ -106,6 +106,7 @@ fn put_last(out: &mut [u8], at: usize, book: Book) -> usize
     requires { ⌜ (at ≤ 3860) × (total book < limit) ⌝ }
     ensures { λ r. ⌜ (r ≤ at + 63) × Wrote (now (out .entry)) at (lastLine book) (now (out .exit)) r ⌝ }
 {
+    // the total fits
     let Checked::Some(mantissa) = steps::book_total(book) else {
         return at;
     };

@@ -1,5 +1,6 @@
 // What lines are made of, written into a lent buffer from a place on. What does not fit is not written but counted: each
-// writer gives the place behind its text, so that a listing can be measured by writing it nowhere.
+// writer gives the place behind its text, so that a listing can be measured by writing it nowhere. Every place is below
+// 65,536, as a listing's length is 16 bits.
 ghost use mathlib.Core.Path.{_≡_};
 ghost use Prim.Native.Nat.{_+_, _<_, _≤_};
 ghost use lib.ListN.{length, take};

@@ -4,10 +4,6 @@ use lib.Seq.{length-take-le}
 use Rattle.report.proofs.Fitting.{length-in}
 use Rattle.listing.proofs.main.Statement.{statement}
 use Rattle.listing.proofs.main.Tie as tie
-use Rattle.io.proofs.buffer.Reads as buffer-reads
-use Rattle.io.proofs.read_full.Reads as read-full-reads
-use Rattle.io.proofs.write_all.Reads as write-all-reads
-use Rattle.report.proofs.listing.Reads as listing-reads
 
 slice-aggregate-read-full : tie.Need-slice-aggregate-read-full
 slice-aggregate-read-full c = search needs

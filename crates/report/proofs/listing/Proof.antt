@@ -7,8 +7,6 @@ use Rattle.report.proofs.Putting.{as-text}
 use Rattle.report.proofs.Fitting.{run-text, run-fits, too-short, all-fits}
 use Rattle.report.proofs.listing.Statement.{statement}
 use Rattle.report.proofs.listing.Tie as tie
-use Rattle.report.proofs.lines.put_listing.Reads as put-listing-reads
-use Rattle.session.proofs.running.run.Reads as run-reads
 
 run-requires : tie.Need-run-requires
 run-requires c κs = search needs

@@ -9,10 +9,6 @@ use Rattle.report.specs.Listing.{lastLine}
 use Rattle.report.proofs.Putting.{_then_, as-text}
 use Rattle.report.proofs.lines.put_last.Statement.{statement}
 use Rattle.report.proofs.lines.put_last.Tie as tie
-use Rattle.report.proofs.lines.put_counts.Reads as put-counts-reads
-use Rattle.report.proofs.text.put.Reads as put-reads
-use Rattle.report.proofs.text.put_amount.Reads as put-amount-reads
-use Rattle.steps.proofs.book_total.Reads as book-total-reads
 
 book-total-requires : tie.Need-book-total-requires
 book-total-requires c κs = search needs

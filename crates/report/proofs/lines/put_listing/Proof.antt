@@ -5,10 +5,6 @@ use Rattle.report.proofs.Putting.{_then_, as-text}
 use Rattle.report.proofs.Fitting.{bad-text, good-text}
 use Rattle.report.proofs.lines.put_listing.Statement.{statement}
 use Rattle.report.proofs.lines.put_listing.Tie as tie
-use Rattle.report.proofs.lines.put_last.Reads as put-last-reads
-use Rattle.report.proofs.lines.put_places.Reads as put-places-reads
-use Rattle.report.proofs.lines.put_steps.Reads as put-steps-reads
-use Rattle.report.proofs.text.put.Reads as put-reads
 
 slice-aggregate-put : tie.Need-slice-aggregate-put
 slice-aggregate-put c = search needs

@@ -5,10 +5,6 @@ use Rattle.report.proofs.Putting.{_then_, wrote-none, as-text}
 use Rattle.report.proofs.Turns.{closed-line, open-line}
 use Rattle.report.proofs.lines.put_place.Statement.{statement}
 use Rattle.report.proofs.lines.put_place.Tie as tie
-use Rattle.report.proofs.text.put.Reads as put-reads
-use Rattle.report.proofs.text.put_amount.Reads as put-amount-reads
-use Rattle.report.proofs.text.put_number.Reads as put-number-reads
-use Rattle.steps.proofs.has16.Reads as has16-reads
 
 has16-requires : tie.Need-has16-requires
 has16-requires c κs = search needs

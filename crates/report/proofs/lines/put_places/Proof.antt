@@ -12,7 +12,6 @@ use Rattle.book.specs.Book.{placeRecord}
 use Rattle.book.proofs.Formed.{formed}
 use Rattle.report.proofs.lines.put_places.Statement.{statement}
 use Rattle.report.proofs.lines.put_places.Tie as tie
-use Rattle.report.proofs.lines.put_place.Reads as put-place-reads
 
 abbrev Inv-loop : tie.InvT-loop
 Inv-loop out₀ at book opened end₀ i₀ out end i = (i ≤ 16) × (end ≤ at + 50 * i) × (length out ≡ length out₀) × Wrote out₀ at (placeLines book i) out end

@@ -3,8 +3,6 @@ use Rattle.report.specs.Listing.{stepLine}
 use Rattle.report.proofs.Putting.{_then_}
 use Rattle.report.proofs.lines.put_step.Statement.{statement}
 use Rattle.report.proofs.lines.put_step.Tie as tie
-use Rattle.report.proofs.text.put.Reads as put-reads
-use Rattle.report.proofs.text.put_number.Reads as put-number-reads
 
 put-number-requires : tie.Need-put-number-requires
 put-number-requires c κs = search needs

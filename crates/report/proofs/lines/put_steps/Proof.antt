@@ -11,7 +11,6 @@ use Rattle.report.proofs.Putting.{_then_, wrote-none, as-text}
 use Rattle.report.proofs.Turns.{step-more}
 use Rattle.report.proofs.lines.put_steps.Statement.{statement}
 use Rattle.report.proofs.lines.put_steps.Tie as tie
-use Rattle.report.proofs.lines.put_step.Reads as put-step-reads
 
 abbrev Inv-loop : tie.InvT-loop
 Inv-loop out₀ count answers n at₀ i₀ out at i = (i ≤ n) × (at ≤ 12 * i) × (length out ≡ length out₀) × Wrote out₀ 0 (stepLines 1 (take i answers)) out at

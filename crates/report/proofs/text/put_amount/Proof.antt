@@ -3,8 +3,6 @@ use Rattle.report.proofs.Putting.{as-text}
 use Rattle.report.proofs.Digits.{few-bytes, first-bytes}
 use Rattle.report.proofs.text.put_amount.Statement.{statement}
 use Rattle.report.proofs.text.put_amount.Tie as tie
-use Rattle.amount.proofs.Amount.to_canonical_string.Reads as to-canonical-string-reads
-use Rattle.report.proofs.text.put_first.Reads as put-first-reads
 
 to-canonical-string-requires : tie.Need-to-canonical-string-requires
 to-canonical-string-requires c κs = search needs

@@ -4,7 +4,6 @@ use mathlib.Core.Path.{sym}
 use native.Mathlib.Omega.{arith}
 use Rattle.report.proofs.text.put_first.Statement.{statement}
 use Rattle.report.proofs.text.put_first.Tie as tie
-use Rattle.report.proofs.text.put.Reads as put-reads
 
 array-share-prefix-bytes : tie.Need-array-share-prefix-bytes
 array-share-prefix-bytes c = search needs

@@ -3,7 +3,6 @@ use Rattle.report.proofs.Putting.{as-text}
 use Rattle.report.proofs.Digits.{one-digit, two-digits, three-digits}
 use Rattle.report.proofs.text.put_number.Statement.{statement}
 use Rattle.report.proofs.text.put_number.Tie as tie
-use Rattle.report.proofs.text.put.Reads as put-reads
 
 add-ones : tie.Need-add-ones
 add-ones c = search needs
