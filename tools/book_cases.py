@@ -11,64 +11,11 @@ balance, each transfer's ends and amount.
 """
 import collections, os, random, struct, sys
 from ledger import *
+from random_steps import a_step
 
 seed, lists = int(sys.argv[1]) if len(sys.argv) > 1 else 1, int(sys.argv[2]) if len(sys.argv) > 2 else 2200
 rng = random.Random(seed)
 CRATE = os.path.join(os.path.dirname(os.path.abspath(__file__)), "..", "crates", "book_cases")
-SUBJECTS = [b"N1", b"N2", b"pier 7", b"\xff\x00", b"x" * 32]
-BIG = str(LIMIT - 1).encode()
-
-
-def amount_text():
-    return rng.choice([b"0", b"1", b"2", b"3", b"5", b"8", b"13", b"21", b"007", BIG, str(LIMIT // 2).encode(), str(rng.randrange(1 << 64)).encode(),
-                       str(LIMIT).encode(), b"", b"1.5", b"1e3", b"2E1", b"-1", b"9" * 40, b"0" * 38 + b"1"] if rng.random() < .3
-                      else [b"1", b"2", b"3", b"5", b"8"])
-
-
-def field(name, text, odd=.04):
-    """A field that is a text, or now and then none, no string, or empty."""
-    r = rng.random()
-    return () if r < odd else ((name, 2, b""),) if r < 2 * odd else ((name, 1, b""),) if r < 3 * odd else ((name, 1, text),)
-
-
-def torn(data):
-    if rng.random() < .95:
-        return data
-    data = bytearray(data)
-    how = rng.randrange(4)
-    if how == 0 and data:
-        data[rng.randrange(len(data))] ^= 1 << rng.randrange(8)
-    elif how == 1:
-        data += b"\0"
-    elif how == 2:
-        data = data[:-1]
-    else:
-        data = bytearray()
-    return bytes(data)
-
-
-def some(most, odd=.05):
-    return rng.randrange(256) if rng.random() < odd else rng.randrange(most)
-
-
-def a_step(book, k):
-    """Opens first; then any step, mostly one that the book could take."""
-    kind = 1 if k < 3 and rng.random() < .9 else rng.choice([1, 2, 2, 2, 3, 3, 3, 3, 4, 4])
-    here = sorted(book.opened) or [0]
-    place = lambda: rng.choice(here) if rng.random() < .85 else some(6)
-    if kind == 1:
-        unit = rng.choice([b"rd"] * 12 + [b"re", b"r", b"rd" * 20])
-        subject = rng.choice(SUBJECTS * 4 + [b"y" * 33])
-        return 1, k if k < 3 else some(6), 0, 0, torn(sheet(*field(SUBJECT, subject), *field(UNIT, unit), *field(BALANCE, amount_text())))
-    if kind == 2:
-        operation = rng.choice([12, 13, 14, 16, 17, 18, 19] * 3 + [11, 15, 20, 0, 255])
-        return 2, place(), operation, 0, torn(sheet(*field(AMOUNT, amount_text()), *field(AUTHORIZED_BY, b"boss", .1)))
-    if kind == 3:
-        other = field(TO_SUBJECT, b"Z") if rng.random() < .2 else ()
-        return 3, place(), place(), some(4, .04), torn(sheet(*field(AMOUNT, amount_text()), *other))
-    return 4, 0, 0, rng.choice(sorted(book.pending)) if book.pending and rng.random() < .7 else some(4, .04), b""
-
-
 def start_unit():
     return rng.choice([b"rd"] * 60 + [b"", b"u" * 32, b"u" * 33])
 
@@ -143,7 +90,7 @@ for n in range(lists):
             put(5, *alter(book), b"")
             altered += 1
             state = state or 1
-        entry = a_step(book, k) if n else worked()[k]
+        entry = a_step(rng, book, k) if n else worked()[k]
         answer = step(book, *entry)
         put(*entry, answer)
         state = 2 if answer[0] == 28 and state == 1 else state

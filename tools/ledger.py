@@ -262,12 +262,14 @@ def run(data):
     return book, [step(book, *entry) for entry in entries[1:]]
 
 
-def listing(data):
-    ran = run(data)
-    if ran is None:
-        return b"bad session\n"
-    book, answers = ran
+def listed(book, answers):
+    """The listing's text of a run."""
     lines = ["%d %d %d" % (k, answer[0], answer[1]) for k, answer in enumerate(answers, 1)]
     lines += ["place %d %d" % (p, book.places[p].balance) for p in sorted(book.opened)]
     lines.append("held %d way %d total %d" % (len(book.opened), len(book.pending), book.total()))
     return "".join(line + "\n" for line in lines).encode()
+
+
+def listing(data):
+    ran = run(data)
+    return b"bad session\n" if ran is None else listed(*ran)
