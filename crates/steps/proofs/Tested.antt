@@ -81,6 +81,16 @@ module _ (b : Book) (s : Step) (r : Bool) (h : r ≡ wellFormed b) where
 pub formed-by : (b : Book) (t : Checked) (r : Bool) → r ≡ inRange t → t ≡ soundTotal b → r ≡ wellFormed b
 formed-by b t r h e = h ∙ ap inRange e ∙ sound-so b
 
+-- 28 is passed
+module _ (b : Book) (s : Step) where
+  pub unsound : wellFormed b ≡ false → Refused BadBook ≡ answer b s
+  unfolding answer
+  unsound h = rw h
+
+  pub past-sound : wellFormed b ≡ true → Past b s 1
+  unfolding answer
+  past-sound h = record { rest = rw h }
+
 -- ---- what they go by
 
 module _ (b : Book) (p : ℕ) where
@@ -103,6 +113,17 @@ module _ (b : Book) (p : ℕ) where
   pub number-busy : seen b .busy p ≡ has (b .pending) p
   unfolding seen
   number-busy = busy-by b p
+
+-- the same by a set that is the book's, and the code's test of it
+module _ (b : Book) (p n : ℕ) (r : Bool) where
+  pub open-as : n ≡ b .opened → r ≡ has n p → has (b .opened) p ≡ r
+  open-as e h = sym (h ∙ ap (λ (m : ℕ). has m p) e)
+
+  pub there-as : n ≡ b .opened → r ≡ has n p → seen b .place p .there ≡ r
+  there-as e h = place-there b p ∙ open-as e h
+
+  pub busy-as : n ≡ b .pending → r ≡ has n p → seen b .busy p ≡ r
+  busy-as e h = number-busy b p ∙ sym (h ∙ ap (λ (m : ℕ). has m p) e)
 
 pub ends-there : (b : Book) (f g : ℕ) → seen b .place f .there && seen b .place g .there ≡ has (b .opened) f && has (b .opened) g
 ends-there b f g = rw (place-there b f, place-there b g)

@@ -1,8 +1,10 @@
 // The finish of a transfer: its amount joins the destination's balance, and its number is free again.
 ghost use mathlib.Core.Path.{_≡_};
+ghost use mathlib.Core.Bool.{true};
 ghost use Prim.Native.Nat.{_+_, _<_};
 ghost use Rattle.amount.specs.Numbers.{val, limit};
-ghost use Rattle.book.specs.Book.{credits, setBalance, wholeAmount};
+ghost use Rattle.book.specs.Book.{credits, setBalance, wholeAmount, wellFormed};
+ghost use Rattle.book.specs.declared.Book.{Book};
 ghost use Rattle.book.specs.Steps.{Finish, answer, next, effect};
 ghost use Rattle.book.specs.declared.error.BookOutcome.the-variants.{Accepted};
 use crate::alter;
@@ -15,21 +17,27 @@ use book::Place;
 use book::error::BookError;
 use book::error::BookOutcome;
 
-// 28, 22, 23.
+// 22, 23: finish's answer on any sound book with that set of transfers under way.
+pub fn finish_seen(pending: u8, t: u8) -> BookOutcome
+    ensures { λ r. ⌜ ((b : Book) → wellFormed b ≡ true → pending ≡ b .pending → r ≡ answer b (Finish t)) ⌝ }
+{
+    if 7 < t {
+        return BookOutcome::Refused(BookError::OffTheBook);
+    }
+    if !sets::has8(pending, t) {
+        return BookOutcome::Refused(BookError::Idle);
+    }
+    BookOutcome::Accepted
+}
+
+// 28, then the rest.
 pub fn finish_outcome(book: Book, t: u8) -> BookOutcome
     ensures { λ r. ⌜ r ≡ answer book (Finish t) ⌝ }
 {
     if !soundness::well_formed(book) {
         return BookOutcome::Refused(BookError::BadBook);
     }
-    if 7 < t {
-        return BookOutcome::Refused(BookError::OffTheBook);
-    }
-    let pending = book.pending;
-    if !sets::has8(pending, t) {
-        return BookOutcome::Refused(BookError::Idle);
-    }
-    BookOutcome::Accepted
+    finish_seen(book.pending, t)
 }
 
 // The book after it; a refused one leaves it as it was.

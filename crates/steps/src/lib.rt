@@ -28,6 +28,7 @@ pub use begin::begin_book;
 pub use begin::begin_outcome;
 pub use finish::finish_book;
 pub use finish::finish_outcome;
+pub use finish::finish_seen;
 pub use open::open_book;
 pub use open::open_outcome;
 pub use sets::has16;
