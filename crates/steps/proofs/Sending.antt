@@ -1,5 +1,5 @@
 -- balance.transfer's check with a text put in as to_subject: 9 where it is empty, else debit's list.
-use mathlib.Core.Path.{_≡_, sym, _∙_}
+use mathlib.Core.Path.{_≡_, refl, sym, _∙_}
 use mathlib.Core.Logic.{_≢_}
 use mathlib.Core.List.{List, _∷_}
 use Prim.Native.Nat.{ℕ}
@@ -35,4 +35,4 @@ pub sent-at : (b : Book) (f g : ℕ) (i : List ℕ) → Here b f → Here b g �
     → ((s u : List ℕ) → o ≡ balanceRules amountIn (placeView s u (placeRecord b f .balance))
     (putField (field i) to-subject (text (nameBytes (placeRecord b g .subject)))) 15)
     → said o ≡ checkAt (seen b) f (sentTo (seen b) g i) 15
-sent-at b f g i h k o e = checked-at b f 15 _ h o e ∙ rw (place-open b g k)
+sent-at b f g i h k o e = checked-at b f 15 _ h _ refl o e ∙ rw (place-open b g k)

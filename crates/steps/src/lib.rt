@@ -15,6 +15,7 @@ mod totals;
 
 pub use act::act_book;
 pub use act::act_outcome;
+pub use act::act_seen;
 pub use after::act_after;
 pub use after::begin_after;
 pub use after::finish_after;
@@ -31,6 +32,7 @@ pub use finish::finish_outcome;
 pub use finish::finish_seen;
 pub use open::open_book;
 pub use open::open_outcome;
+pub use open::open_seen;
 pub use sets::has16;
 pub use start::start_book;
 pub use start::start_outcome;

@@ -1,5 +1,10 @@
 // An opening of a place: a subject with its first balance.
 ghost use mathlib.Core.Path.{_≡_};
+ghost use mathlib.Core.Bool.{true};
+ghost use Rattle.amount.specs.Numbers.{val};
+ghost use Rattle.book.specs.Book as book;
+ghost use Rattle.book.specs.Book.{wellFormed};
+ghost use Rattle.book.specs.declared.Book.{Book};
 ghost use Rattle.book.specs.Steps.{Open, answer, next, effect};
 ghost use Rattle.book.specs.declared.error.BookOutcome.the-variants.{Accepted};
 use crate::alter;
@@ -8,7 +13,10 @@ use crate::sets;
 use crate::soundness;
 use crate::start;
 use crate::totals;
+use amount::Checked;
+use amount::Uint128;
 use book::Book;
+use book::Name;
 use book::Place;
 use book::error::BookError;
 use book::error::BookOutcome;
@@ -16,18 +24,18 @@ use profiles::error::Outcome;
 use profiles::error::ProfileError;
 use profiles::registry;
 
-// 28, 22, 5, 2, create's check, 26, 27, 25.
-pub fn open_outcome(book: Book, place: u8, input: &[u8]) -> BookOutcome
-    ensures { λ r. ⌜ r ≡ answer book (Open place (now (input .entry))) ⌝ }
+// 22, 5, 2, create's check, 26, 27, 25: open's answer on any sound book with that unit, those open places and that total.
+// The first test is met with no such book.
+pub fn open_seen(unit: Name, opened: u16, total: Uint128, place: u8, input: &[u8]) -> BookOutcome
+    ensures { λ r. ⌜ ((b : Book) → wellFormed b ≡ true → unit ≡ b .unit → opened ≡ b .opened → val total ≡ book.total b
+        → r ≡ answer b (Open place (now (input .entry)))) ⌝ }
 {
-    let total = soundness::sound_total(book);
-    if !totals::in_range(total) {
+    if 32 < unit.len {
         return BookOutcome::Refused(BookError::BadBook);
     }
     if 15 < place {
         return BookOutcome::Refused(BookError::OffTheBook);
     }
-    let opened = book.opened;
     if sets::has16(opened, place) {
         return BookOutcome::Refused(BookError::Profile(ProfileError::Born));
     }
@@ -37,7 +45,6 @@ pub fn open_outcome(book: Book, place: u8, input: &[u8]) -> BookOutcome
     if let Outcome::Refused(e) = places::check_create_at(input) {
         return BookOutcome::Refused(BookError::Profile(e));
     }
-    let unit = book.unit;
     let bytes = unit.bytes;
     if !reads::same_text(bytes, unit.len, registry::text(input, sheet::UNIT)) {
         return BookOutcome::Refused(BookError::OtherUnit);
@@ -47,8 +54,17 @@ pub fn open_outcome(book: Book, place: u8, input: &[u8]) -> BookOutcome
         return BookOutcome::Refused(BookError::LongName(sheet::SUBJECT));
     }
     let a = reads::asked(input, sheet::BALANCE);
-    let n = a.mantissa;
-    totals::room(total, n)
+    totals::room(total, a.mantissa)
+}
+
+// 28, then the rest.
+pub fn open_outcome(book: Book, place: u8, input: &[u8]) -> BookOutcome
+    ensures { λ r. ⌜ r ≡ answer book (Open place (now (input .entry))) ⌝ }
+{
+    let Checked::Some(total) = soundness::sound_total(book) else {
+        return BookOutcome::Refused(BookError::BadBook);
+    };
+    open_seen(book.unit, book.opened, total, place, input)
 }
 
 // The book after it; a refused one leaves it as it was.
