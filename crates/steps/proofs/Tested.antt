@@ -5,7 +5,6 @@ use mathlib.Core.List.{List, [], _∷_}
 use Prim.Native.Nat.{ℕ, zero, suc, _+_}
 use lib.Dec.{leb}
 use lib.ListN.{getD, drop}
-use borrow.Author.Tests.{not-true, not-false}
 use Rattle.amount.specs.Numbers.{limit}
 use Rattle.amount.specs.declared.Amount.{Amount}
 use Rattle.sheet.specs.Fields.{Field, field, balance}
@@ -65,17 +64,7 @@ module _ {b : Book} {s : Step} {n : ℕ} (p : Past b s n) where
   pub done : drop n (tests b s) ≡ [] → Accepted ≡ answer b s
   done e = sym (p .rest ∙ ap firstRefusal e)
 
--- 28, by the code's test of it
-module _ (b : Book) (s : Step) (r : Bool) (h : r ≡ wellFormed b) where
-  pub bad-book : not r ≡ true → Refused BadBook ≡ answer b s
-  unfolding answer
-  bad-book k = rw (sym h ∙ not-true r k)
-
-  pub past-28 : not r ≡ false → Past b s 1
-  unfolding answer
-  past-28 k = record { rest = rw (sym h ∙ not-false r k) }
-
--- 28 is passed
+-- 28
 module _ (b : Book) (s : Step) where
   pub unsound : wellFormed b ≡ false → Refused BadBook ≡ answer b s
   unfolding answer
@@ -121,6 +110,14 @@ module _ (b : Book) (p n : ℕ) (r : Bool) where
 
 pub ends-there : (b : Book) (f g : ℕ) → seen b .place f .there && seen b .place g .there ≡ has (b .opened) f && has (b .opened) g
 ends-there b f g = rw (place-there b f, place-there b g)
+
+-- both ends, by a set that is the book's
+module _ (b : Book) (f g n : ℕ) (r : Bool) (e : n ≡ b .opened) (h : r ≡ has n f && has n g) where
+  pub both-as : has (b .opened) f && has (b .opened) g ≡ r
+  both-as = sym (h ∙ ap (λ (m : ℕ). has m f && has m g) e)
+
+  pub ends-as : seen b .place f .there && seen b .place g .there ≡ r
+  ends-as = ends-there b f g ∙ both-as
 
 abbrev pub Here : Book → ℕ → Type 0
 Here b p = has (b .opened) p ≡ true

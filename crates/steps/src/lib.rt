@@ -27,6 +27,7 @@ pub use answers::open_answer;
 pub use answers::start_answer;
 pub use begin::begin_book;
 pub use begin::begin_outcome;
+pub use begin::begin_seen;
 pub use finish::finish_book;
 pub use finish::finish_outcome;
 pub use finish::finish_seen;
