@@ -1,10 +1,11 @@
 // An act: an operation of the balance profile at one place.
 ghost use mathlib.Core.Path.{_≡_};
 ghost use mathlib.Core.Bool.{true};
-ghost use Prim.Native.Nat.{_<_};
+ghost use Prim.Native.Nat.{ℕ, _<_};
+ghost use lib.ListN.{set};
 ghost use Rattle.amount.specs.Numbers.{val};
 ghost use Rattle.book.specs.Book as book;
-ghost use Rattle.book.specs.Book.{placeRecord, wellFormed};
+ghost use Rattle.book.specs.Book.{placeRecord, setPlaces, wellFormed};
 ghost use Rattle.book.specs.declared.Book.{Book};
 ghost use Rattle.book.specs.Steps.{Act, answer, next, effect, adds, acts};
 ghost use Rattle.book.specs.declared.error.BookOutcome.the-variants.{Accepted};
@@ -17,6 +18,7 @@ use amount::Amount;
 use amount::Checked;
 use amount::Uint128;
 use book::Book;
+use book::Place;
 use book::error::BookError;
 use book::error::BookOutcome;
 use profiles::error::Outcome;
@@ -111,20 +113,33 @@ pub fn act_book(book: Book, place: u8, operation: u8, input: &[u8]) -> Book
     }
 }
 
-pub fn acted(book: Book, place: u8, operation: u8, input: &[u8]) -> Book
-    requires { ⌜ answer book (Act place operation (now input)) ≡ Accepted ⌝ }
-    ensures { λ r. ⌜ r ≡ effect book (Act place operation (now (input .entry))) ⌝ }
+// Where it is accepted.
+pub fn acted(mut book: Book, place: u8, operation: u8, input: &[u8]) -> Book
+    ensures { λ r. ⌜ (answer book (Act place operation (now (input .entry))) ≡ Accepted
+        → r ≡ effect book (Act place operation (now (input .entry)))) ⌝ }
 {
+    if 15 < place {
+        return book;
+    }
     let i = place as usize;
     let x = book.places[i];
+    book.places[i] = act_record(x, operation, input);
+    book
+}
+
+// The place's record after an accepted act: x with the amount added or subtracted.
+pub fn act_record(x: Place, operation: u8, input: &[u8]) -> Place
+    ensures { λ r. ⌜ ((b : Book) (p : ℕ) → answer b (Act p operation (now (input .entry))) ≡ Accepted → x ≡ placeRecord b p
+        → setPlaces b (set (b .places) p r) ≡ effect b (Act p operation (now (input .entry)))) ⌝ }
+{
     let held = x.balance;
     let a = reads::asked(input, sheet::AMOUNT);
     if is_adding(operation) {
         let more = held.checked_add(a).given();
         let sum = more.amount;
-        return alter::with_credits(book, place, sum.mantissa);
+        return alter::holding(x, sum.mantissa);
     }
     let less = held.checked_sub(a).given();
     let left = less.amount;
-    alter::with_credits(book, place, left.mantissa)
+    alter::holding(x, left.mantissa)
 }

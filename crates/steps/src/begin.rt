@@ -4,12 +4,12 @@ ghost use mathlib.Core.Bool.{true, _||_};
 ghost use mathlib.Core.List.{List};
 ghost use Prim.Native.Nat.{ℕ, _≤_, _<_};
 ghost use lib.Dec.{leb};
-ghost use lib.ListN.{take};
-ghost use Rattle.sheet.specs.Fields.{field, text, to-subject};
-ghost use Rattle.profiles.specs.Readers.{amountIn};
+ghost use lib.ListN.{set, take};
+ghost use Rattle.sheet.specs.Fields.{field, text, to-subject, amount};
+ghost use Rattle.profiles.specs.Readers.{amountIn, readAmount};
 ghost use Rattle.profiles.specs.Balance.{balanceRules};
 ghost use Rattle.places.specs.Places.{placeView, putField};
-ghost use Rattle.book.specs.Book.{placeRecord, wellFormed};
+ghost use Rattle.book.specs.Book.{placeRecord, setPlaces, setTransfer, wellFormed};
 ghost use Rattle.book.specs.declared.Book.{Book};
 ghost use Rattle.book.specs.Steps.{Begin, answer, next, effect};
 ghost use Rattle.book.specs.declared.error.BookOutcome.the-variants.{Accepted};
@@ -20,6 +20,7 @@ use crate::soundness;
 use amount::Amount;
 use book::Book;
 use book::Name;
+use book::Place;
 use book::Transfer;
 use book::error::BookError;
 use book::error::BookOutcome;
@@ -125,16 +126,31 @@ pub fn begin_book(book: Book, from: u8, to: u8, transfer: u8, input: &[u8]) -> B
     }
 }
 
-pub fn begun(book: Book, from: u8, to: u8, transfer: u8, input: &[u8]) -> Book
-    requires { ⌜ answer book (Begin from to transfer (now input)) ≡ Accepted ⌝ }
-    ensures { λ r. ⌜ r ≡ effect book (Begin from to transfer (now (input .entry))) ⌝ }
+// Where it is accepted.
+pub fn begun(mut book: Book, from: u8, to: u8, transfer: u8, input: &[u8]) -> Book
+    ensures { λ r. ⌜ (answer book (Begin from to transfer (now (input .entry))) ≡ Accepted
+        → r ≡ effect book (Begin from to transfer (now (input .entry)))) ⌝ }
 {
+    if off_the_book(from, to, transfer) {
+        return book;
+    }
     let i = from as usize;
-    let source = book.places[i];
-    let held = source.balance;
+    let x = book.places[i];
+    book.places[i] = begin_record(x, input);
+    let amount = reads::asked(input, sheet::AMOUNT);
+    alter::with_transfer(book, transfer, Transfer { from, to, amount })
+}
+
+// The source's record after an accepted begin: x with the amount less.
+pub fn begin_record(x: Place, input: &[u8]) -> Place
+    ensures { λ r. ⌜ ((b : Book) (f g t : ℕ) → answer b (Begin f g t (now (input .entry))) ≡ Accepted → x ≡ placeRecord b f
+        → setTransfer (setPlaces b (set (b .places) f r)) t 1
+        (record { from = f; to = g; amount = readAmount (amountIn amount (field (now (input .entry)) amount)) })
+        ≡ effect b (Begin f g t (now (input .entry)))) ⌝ }
+{
+    let held = x.balance;
     let amount = reads::asked(input, sheet::AMOUNT);
     let less = held.checked_sub(amount).given();
     let left = less.amount;
-    let paid = alter::with_credits(book, from, left.mantissa);
-    alter::with_transfer(paid, transfer, Transfer { from, to, amount })
+    alter::holding(x, left.mantissa)
 }

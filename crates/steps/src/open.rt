@@ -1,9 +1,10 @@
 // An opening of a place: a subject with its first balance.
 ghost use mathlib.Core.Path.{_≡_};
 ghost use mathlib.Core.Bool.{true};
+ghost use Prim.Native.Nat.{ℕ};
 ghost use Rattle.amount.specs.Numbers.{val};
 ghost use Rattle.book.specs.Book as book;
-ghost use Rattle.book.specs.Book.{wellFormed};
+ghost use Rattle.book.specs.Book.{openPlace, wellFormed};
 ghost use Rattle.book.specs.declared.Book.{Book};
 ghost use Rattle.book.specs.Steps.{Open, answer, next, effect};
 ghost use Rattle.book.specs.declared.error.BookOutcome.the-variants.{Accepted};
@@ -77,11 +78,23 @@ pub fn open_book(book: Book, place: u8, input: &[u8]) -> Book
     }
 }
 
+// Where it is accepted.
 pub fn opened_at(book: Book, place: u8, input: &[u8]) -> Book
-    requires { ⌜ answer book (Open place (now input)) ≡ Accepted ⌝ }
-    ensures { λ r. ⌜ r ≡ effect book (Open place (now (input .entry))) ⌝ }
+    ensures { λ r. ⌜ (answer book (Open place (now (input .entry))) ≡ Accepted
+        → r ≡ effect book (Open place (now (input .entry)))) ⌝ }
 {
-    let subject = start::name_of(registry::text(input, sheet::SUBJECT));
+    if 15 < place {
+        return book;
+    }
+    alter::with_place(book, place, open_record(input))
+}
+
+// The place's record after an accepted open: the sheet's subject and balance.
+pub fn open_record(input: &[u8]) -> Place
+    ensures { λ r. ⌜ ((b : Book) (p : ℕ) → answer b (Open p (now (input .entry))) ≡ Accepted
+        → openPlace b p r ≡ effect b (Open p (now (input .entry)))) ⌝ }
+{
+    let subject = start::short_name(registry::text(input, sheet::SUBJECT));
     let balance = reads::asked(input, sheet::BALANCE);
-    alter::with_place(book, place, Place { subject, balance })
+    Place { subject, balance }
 }
