@@ -53,10 +53,10 @@ zero-accepts Accepted h = refl
 zero-accepts (Refused e) h = absurd (omega (arith, refusal-number e, h))
 
 -- what a step answered, and the book after it
-pub accepted-so : (b : Book) (s : Step) (n : ℕ) → n ≡ answerOf (answer b s) .number → n ≡ 0 → answer b s ≡ Accepted
+accepted-so : (b : Book) (s : Step) (n : ℕ) → n ≡ answerOf (answer b s) .number → n ≡ 0 → answer b s ≡ Accepted
 accepted-so b s n e z = zero-accepts (answer b s) (sym e ∙ z)
 
-pub done-so : (b c : Book) (s : Step) (n : ℕ) → n ≡ answerOf (answer b s) .number → n ≡ 0 → c ≡ effect b s → c ≡ next b s
+pub done-so : (b c : Book) (s : Step) (n : ℕ) → n ≡ answerOf (answer b s) .number → n ≡ 0 → (answer b s ≡ Accepted → c ≡ effect b s) → c ≡ next b s
 done-so b c s n e z k = next-done b c s (answer b s) refl (accepted-so b s n e z) k
 
 pub kept-so : (b : Book) (s : Step) (n : ℕ) → n ≡ answerOf (answer b s) .number → 0 < n → b ≡ next b s

@@ -18,6 +18,7 @@ use Rattle.places.proofs.Asking.{begin-debits}
 use Rattle.book.specs.Book.{nameBytes, placeRecord}
 use Rattle.book.specs.Steps.{said, seen, checkAt, sentTo}
 use Rattle.book.specs.declared.Book.{Book}
+use Rattle.book.specs.declared.Name.{Name}
 use Rattle.steps.proofs.Tested.{Here, place-open, checked-at}
 
 module _ (s u : List ℕ) (b : Amount) (inp : ℕ → Field) (d : List ℕ) where
@@ -30,9 +31,9 @@ module _ (s u : List ℕ) (b : Amount) (inp : ℕ → Field) (d : List ℕ) wher
   unfolding balanceRules
   sends h = sym (begin-debits s u b inp amountIn d h)
 
--- begin's check of a book, by the code's check at the two places
-pub sent-at : (b : Book) (f g : ℕ) (i : List ℕ) → Here b f → Here b g → (o : Outcome)
-    → ((s u : List ℕ) → o ≡ balanceRules amountIn (placeView s u (placeRecord b f .balance))
-    (putField (field i) to-subject (text (nameBytes (placeRecord b g .subject)))) 15)
+-- begin's check of a book, by the code's check of what the two places hold
+pub sent-at : (b : Book) (f g : ℕ) (i : List ℕ) → Here b f → Here b g → (a : Amount) (n : Name) → a ≡ placeRecord b f .balance
+    → n ≡ placeRecord b g .subject → (o : Outcome)
+    → ((s u : List ℕ) → o ≡ balanceRules amountIn (placeView s u a) (putField (field i) to-subject (text (nameBytes n))) 15)
     → said o ≡ checkAt (seen b) f (sentTo (seen b) g i) 15
-sent-at b f g i h k o e = checked-at b f 15 _ h o e ∙ rw (place-open b g k)
+sent-at b f g i h k a n d m o e = checked-at b f 15 _ h a d o e ∙ rw (m, place-open b g k)

@@ -1,19 +1,19 @@
--- Tests 28 and 25 by the total of a sound book.
+-- Test 28 by the total of a sound book.
 use mathlib.Core.Path.{_≡_, refl, sym, ap, _∙_}
-use mathlib.Core.Bool.{Bool, true, false, not, cond, _&&_}
-use Prim.Native.Nat.{ℕ, _+_}
-use lib.Dec.{leb, ltb}
-use borrow.Author.Tests.{ltb-true, ltb-false, lt-leb, le-leb}
-use Rattle.amount.specs.Numbers.{limit, checked}
+use mathlib.Core.Bool.{Bool, true, false, cond, _&&_}
+use Prim.Native.Nat.{ℕ}
+use lib.Dec.{ltb}
+use borrow.Author.Tests.{ltb-false}
+use Rattle.amount.specs.Numbers.{val, limit, checked}
+use Rattle.amount.specs.declared.uint128.Uint128.{Uint128}
 use Rattle.amount.specs.declared.uint128.Checked.{Checked}
-use Rattle.amount.specs.declared.uint128.Checked.the-variants.{None}
+use Rattle.amount.specs.declared.uint128.Checked.the-variants.{Some, None}
 use Rattle.book.specs.Book.{wellFormed, total}
-use Rattle.book.specs.Steps.{refusedIf}
 use Rattle.book.specs.declared.Book.{Book}
-use Rattle.book.specs.declared.error.BookError.the-variants.{TooMuch}
+use Rattle.amount.proofs.Halves.{val-of}
 use Rattle.book.proofs.Formed.{and-r}
-use Rattle.steps.specs.Totals.{more, inRange, partsOk, soundTotal}
-use Rattle.steps.proofs.Sums.{fits, passes, more-is}
+use Rattle.steps.specs.Totals.{inRange, partsOk, soundTotal}
+use Rattle.steps.proofs.Sums.{fits, passes, fits-so}
 
 in-range : (n : ℕ) → inRange (checked n) ≡ ltb n limit
 in-range n = go (ltb n limit) refl
@@ -47,22 +47,16 @@ sound-so b = go (partsOk b) ∙ sym (formed-so b)
         none true = refl
         none false = refl
 
--- 25
+-- ---- what the total of a sound book says
+
 whole : (b : Book) → wellFormed b ≡ true → soundTotal b ≡ checked (total b)
 unfolding soundTotal
 whole b h = rw (and-r (ltb (total b) limit) (partsOk b) (sym (formed-so b) ∙ h))
 
-pub room-so : (b : Book) (n : ℕ) → wellFormed b ≡ true
-    → refusedIf (not (inRange (more (soundTotal b) n))) TooMuch ≡ refusedIf (leb limit (total b + n)) TooMuch
-room-so b n h =
-    ap (λ (s : Checked). refusedIf (not (inRange (more s n))) TooMuch) (whole b h)
-    ∙ ap (λ (s : Checked). refusedIf (not (inRange s)) TooMuch) (more-is (total b) n)
-    ∙ ap (λ (t : Bool). refusedIf (not t) TooMuch) (in-range (total b + n))
-    ∙ ap (λ (t : Bool). refusedIf t TooMuch) (turned (total b + n))
-  where
-    turned : (m : ℕ) → not (ltb m limit) ≡ leb limit m
-    turned m = go (ltb m limit) refl
-      where
-        go : (t : Bool) → ltb m limit ≡ t → not (ltb m limit) ≡ leb limit m
-        go true e = rw (e, lt-leb limit m (ltb-true m limit e))
-        go false e = rw (e, le-leb limit m (ltb-false m limit e))
+pub sound-is : (b : Book) (r : Checked) (u : Uint128) → r ≡ soundTotal b → r ≡ Some u → (wellFormed b ≡ true) × (val u ≡ total b)
+sound-is b r u e f =
+    let h : wellFormed b ≡ true = sym (sound-so b) ∙ ap inRange (sym e ∙ f) in
+    (h, val-of (fits-so (total b) r u (e ∙ whole b h) f .1))
+
+pub sound-not : (b : Book) (r : Checked) → r ≡ soundTotal b → r ≡ None → wellFormed b ≡ false
+sound-not b r e f = sym (sound-so b) ∙ ap inRange (sym e ∙ f)

@@ -5,10 +5,8 @@ use mathlib.Core.List.{List, [], _∷_}
 use Prim.Native.Nat.{ℕ, zero, suc, _+_}
 use lib.Dec.{leb}
 use lib.ListN.{getD, drop}
-use borrow.Author.Tests.{not-true, not-false}
 use Rattle.amount.specs.Numbers.{limit}
 use Rattle.amount.specs.declared.Amount.{Amount}
-use Rattle.amount.specs.declared.uint128.Checked.{Checked}
 use Rattle.sheet.specs.Fields.{Field, field, balance}
 use Rattle.profiles.specs.Readers.{amountIn}
 use Rattle.profiles.specs.Tests.{first, creates}
@@ -25,8 +23,6 @@ use Rattle.book.specs.declared.error.BookOutcome.{BookOutcome}
 use Rattle.book.specs.declared.error.BookOutcome.the-variants.{Accepted, Refused}
 use Rattle.book.proofs.Effects.{asked}
 use Rattle.book.proofs.Formed.{and-l, and-r}
-use Rattle.steps.specs.Totals.{more, inRange, soundTotal}
-use Rattle.steps.proofs.Sound.{sound-so, room-so}
 use Rattle.steps.proofs.Sums.{place-in, place-out, busy-by}
 
 -- ---- in their order
@@ -68,18 +64,15 @@ module _ {b : Book} {s : Step} {n : ℕ} (p : Past b s n) where
   pub done : drop n (tests b s) ≡ [] → Accepted ≡ answer b s
   done e = sym (p .rest ∙ ap firstRefusal e)
 
--- 28, by the code's test of it
-module _ (b : Book) (s : Step) (r : Bool) (h : r ≡ wellFormed b) where
-  pub bad-book : not r ≡ true → Refused BadBook ≡ answer b s
+-- 28
+module _ (b : Book) (s : Step) where
+  pub unsound : wellFormed b ≡ false → Refused BadBook ≡ answer b s
   unfolding answer
-  bad-book k = rw (sym h ∙ not-true r k)
+  unsound h = rw h
 
-  pub past-28 : not r ≡ false → Past b s 1
+  pub past-sound : wellFormed b ≡ true → Past b s 1
   unfolding answer
-  past-28 k = record { rest = rw (sym h ∙ not-false r k) }
-
-pub formed-by : (b : Book) (t : Checked) (r : Bool) → r ≡ inRange t → t ≡ soundTotal b → r ≡ wellFormed b
-formed-by b t r h e = h ∙ ap inRange e ∙ sound-so b
+  past-sound h = record { rest = rw h }
 
 -- ---- what they go by
 
@@ -104,8 +97,27 @@ module _ (b : Book) (p : ℕ) where
   unfolding seen
   number-busy = busy-by b p
 
+-- the same by a set that is the book's, and the code's test of it
+module _ (b : Book) (p n : ℕ) (r : Bool) where
+  pub open-as : n ≡ b .opened → r ≡ has n p → has (b .opened) p ≡ r
+  open-as e h = sym (h ∙ ap (λ (m : ℕ). has m p) e)
+
+  pub there-as : n ≡ b .opened → r ≡ has n p → seen b .place p .there ≡ r
+  there-as e h = place-there b p ∙ open-as e h
+
+  pub busy-as : n ≡ b .pending → r ≡ has n p → seen b .busy p ≡ r
+  busy-as e h = number-busy b p ∙ sym (h ∙ ap (λ (m : ℕ). has m p) e)
+
 pub ends-there : (b : Book) (f g : ℕ) → seen b .place f .there && seen b .place g .there ≡ has (b .opened) f && has (b .opened) g
 ends-there b f g = rw (place-there b f, place-there b g)
+
+-- both ends, by a set that is the book's
+module _ (b : Book) (f g n : ℕ) (r : Bool) (e : n ≡ b .opened) (h : r ≡ has n f && has n g) where
+  pub both-as : has (b .opened) f && has (b .opened) g ≡ r
+  both-as = sym (h ∙ ap (λ (m : ℕ). has m f && has m g) e)
+
+  pub ends-as : seen b .place f .there && seen b .place g .there ≡ r
+  ends-as = ends-there b f g ∙ both-as
 
 abbrev pub Here : Book → ℕ → Type 0
 Here b p = has (b .opened) p ≡ true
@@ -117,18 +129,17 @@ both-here b f g h = (and-l (has (b .opened) f) (has (b .opened) g) h, and-r (has
 
 -- the profile's check at an open place, and create's at a closed one
 module _ (b : Book) (p : ℕ) where
-  pub checked-at : (o : ℕ) (inp : ℕ → Field) → Here b p → (x : Outcome)
-      → ((s u : List ℕ) → x ≡ balanceRules amountIn (placeView s u (placeRecord b p .balance)) inp o) → said x ≡ checkAt (seen b) p inp o
-  checked-at o inp h x e = rw (place-open b p h) (ap said (e (nameBytes (placeRecord b p .subject)) (nameBytes (b .unit))))
+  pub checked-at : (o : ℕ) (inp : ℕ → Field) → Here b p → (a : Amount) → a ≡ placeRecord b p .balance → (x : Outcome)
+      → ((s u : List ℕ) → x ≡ balanceRules amountIn (placeView s u a) inp o) → said x ≡ checkAt (seen b) p inp o
+  checked-at o inp h a k x e = rw (place-open b p h, ← k) (ap said (e (nameBytes (placeRecord b p .subject)) (nameBytes (b .unit))))
 
   pub created-at : (i : List ℕ) → has (b .opened) p ≡ false → (x : Outcome)
       → x ≡ first amountIn closedView (field i) (creates balance) → said x ≡ checkAt (seen b) p (field i) 11
   unfolding balanceRules
   created-at i h x e = rw (place-closed b p h) (ap said e)
 
--- 25, by the code's total
-pub room-by : (b : Book) (name : ℕ) (i : List ℕ) (a : Amount) (t : Checked) (r : BookOutcome) → a ≡ asked name i → t ≡ soundTotal b → wellFormed b ≡ true
-    → r ≡ refusedIf (not (inRange (more t (credits a)))) TooMuch → r ≡ refusedIf (leb limit (seen b .total + creditsIn name i)) TooMuch
+-- 25, by a total that is the book's
+pub room-by : (b : Book) (name : ℕ) (i : List ℕ) (a : Amount) (n : ℕ) (r : BookOutcome) → a ≡ asked name i → n ≡ total b
+    → r ≡ refusedIf (leb limit (n + credits a)) TooMuch → r ≡ refusedIf (leb limit (seen b .total + creditsIn name i)) TooMuch
 unfolding seen creditsIn
-room-by b name i a t r e f w h =
-    h ∙ ap (λ (s : Checked). refusedIf (not (inRange (more s (credits a)))) TooMuch) f ∙ room-so b (credits a) w ∙ rw e
+room-by b name i a n r e f h = h ∙ rw (f, e)

@@ -1,5 +1,12 @@
 // An act: an operation of the balance profile at one place.
 ghost use mathlib.Core.Path.{_≡_};
+ghost use mathlib.Core.Bool.{true};
+ghost use Prim.Native.Nat.{ℕ, _<_};
+ghost use lib.ListN.{set};
+ghost use Rattle.amount.specs.Numbers.{val};
+ghost use Rattle.book.specs.Book as book;
+ghost use Rattle.book.specs.Book.{placeRecord, setPlaces, wellFormed};
+ghost use Rattle.book.specs.declared.Book.{Book};
 ghost use Rattle.book.specs.Steps.{Act, answer, next, effect, adds, acts};
 ghost use Rattle.book.specs.declared.error.BookOutcome.the-variants.{Accepted};
 use crate::alter;
@@ -7,7 +14,11 @@ use crate::reads;
 use crate::sets;
 use crate::soundness;
 use crate::totals;
+use amount::Amount;
+use amount::Checked;
+use amount::Uint128;
 use book::Book;
+use book::Place;
 use book::error::BookError;
 use book::error::BookOutcome;
 use profiles::error::Outcome;
@@ -46,18 +57,21 @@ fn is_act(operation: u8) -> bool
     operation == 19
 }
 
-// 28, 22, 6, 2, 4, the profile's check, 25.
-pub fn act_outcome(book: Book, place: u8, operation: u8, input: &[u8]) -> BookOutcome
-    ensures { λ r. ⌜ r ≡ answer book (Act place operation (now (input .entry))) ⌝ }
+// 22, 6, 2, 4, the profile's check, 25: act's answer on any sound book with those open places, that balance at the place and that total.
+pub fn act_seen(
+    opened: u16,
+    held: Amount,
+    total: Uint128,
+    place: u8,
+    operation: u8,
+    input: &[u8],
+) -> BookOutcome
+    ensures { λ r. ⌜ ((b : Book) → wellFormed b ≡ true → opened ≡ b .opened → (place < 16 → held ≡ placeRecord b place .balance)
+        → val total ≡ book.total b → r ≡ answer b (Act place operation (now (input .entry)))) ⌝ }
 {
-    let total = soundness::sound_total(book);
-    if !totals::in_range(total) {
-        return BookOutcome::Refused(BookError::BadBook);
-    }
     if 15 < place {
         return BookOutcome::Refused(BookError::OffTheBook);
     }
-    let opened = book.opened;
     if !sets::has16(opened, place) {
         return BookOutcome::Refused(BookError::Profile(ProfileError::Unborn));
     }
@@ -67,9 +81,6 @@ pub fn act_outcome(book: Book, place: u8, operation: u8, input: &[u8]) -> BookOu
     if !is_act(operation) {
         return BookOutcome::Refused(BookError::Profile(ProfileError::UnknownOperation));
     }
-    let i = place as usize;
-    let x = book.places[i];
-    let held = x.balance;
     if let Outcome::Refused(e) = places::check_at(operation, held, input) {
         return BookOutcome::Refused(BookError::Profile(e));
     }
@@ -77,8 +88,19 @@ pub fn act_outcome(book: Book, place: u8, operation: u8, input: &[u8]) -> BookOu
         return BookOutcome::Accepted;
     }
     let a = reads::asked(input, sheet::AMOUNT);
-    let n = a.mantissa;
-    totals::room(total, n)
+    totals::room(total, a.mantissa)
+}
+
+// 28, then the rest.
+pub fn act_outcome(book: Book, place: u8, operation: u8, input: &[u8]) -> BookOutcome
+    ensures { λ r. ⌜ r ≡ answer book (Act place operation (now (input .entry))) ⌝ }
+{
+    let Checked::Some(total) = soundness::sound_total(book) else {
+        return BookOutcome::Refused(BookError::BadBook);
+    };
+    let i = (place % 16) as usize;
+    let x = book.places[i];
+    act_seen(book.opened, x.balance, total, place, operation, input)
 }
 
 // The book after it; a refused one leaves it as it was.
@@ -91,20 +113,33 @@ pub fn act_book(book: Book, place: u8, operation: u8, input: &[u8]) -> Book
     }
 }
 
-pub fn acted(book: Book, place: u8, operation: u8, input: &[u8]) -> Book
-    requires { ⌜ answer book (Act place operation (now input)) ≡ Accepted ⌝ }
-    ensures { λ r. ⌜ r ≡ effect book (Act place operation (now (input .entry))) ⌝ }
+// Where it is accepted.
+pub fn acted(mut book: Book, place: u8, operation: u8, input: &[u8]) -> Book
+    ensures { λ r. ⌜ (answer book (Act place operation (now (input .entry))) ≡ Accepted
+        → r ≡ effect book (Act place operation (now (input .entry)))) ⌝ }
 {
+    if 15 < place {
+        return book;
+    }
     let i = place as usize;
     let x = book.places[i];
+    book.places[i] = act_record(x, operation, input);
+    book
+}
+
+// The place's record after an accepted act: x with the amount added or subtracted.
+pub fn act_record(x: Place, operation: u8, input: &[u8]) -> Place
+    ensures { λ r. ⌜ ((b : Book) (p : ℕ) → answer b (Act p operation (now (input .entry))) ≡ Accepted → x ≡ placeRecord b p
+        → setPlaces b (set (b .places) p r) ≡ effect b (Act p operation (now (input .entry)))) ⌝ }
+{
     let held = x.balance;
     let a = reads::asked(input, sheet::AMOUNT);
     if is_adding(operation) {
         let more = held.checked_add(a).given();
         let sum = more.amount;
-        return alter::with_credits(book, place, sum.mantissa);
+        return alter::holding(x, sum.mantissa);
     }
     let less = held.checked_sub(a).given();
     let left = less.amount;
-    alter::with_credits(book, place, left.mantissa)
+    alter::holding(x, left.mantissa)
 }

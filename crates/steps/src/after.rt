@@ -9,8 +9,8 @@ use crate::open;
 use book::Book;
 
 pub fn open_after(book: Book, place: u8, number: u8, input: &[u8]) -> Book
-    requires { ⌜ number ≡ answerOf (answer book (Open place (now input))) .number ⌝ }
-    ensures { λ r. ⌜ r ≡ next book (Open place (now (input .entry))) ⌝ }
+    ensures { λ r. ⌜ (number ≡ answerOf (answer book (Open place (now (input .entry)))) .number
+        → r ≡ next book (Open place (now (input .entry)))) ⌝ }
 {
     if number == 0 {
         return open::opened_at(book, place, input);
@@ -19,8 +19,8 @@ pub fn open_after(book: Book, place: u8, number: u8, input: &[u8]) -> Book
 }
 
 pub fn act_after(book: Book, place: u8, operation: u8, number: u8, input: &[u8]) -> Book
-    requires { ⌜ number ≡ answerOf (answer book (Act place operation (now input))) .number ⌝ }
-    ensures { λ r. ⌜ r ≡ next book (Act place operation (now (input .entry))) ⌝ }
+    ensures { λ r. ⌜ (number ≡ answerOf (answer book (Act place operation (now (input .entry)))) .number
+        → r ≡ next book (Act place operation (now (input .entry)))) ⌝ }
 {
     if number == 0 {
         return act::acted(book, place, operation, input);
@@ -29,8 +29,8 @@ pub fn act_after(book: Book, place: u8, operation: u8, number: u8, input: &[u8])
 }
 
 pub fn begin_after(book: Book, from: u8, to: u8, transfer: u8, number: u8, input: &[u8]) -> Book
-    requires { ⌜ number ≡ answerOf (answer book (Begin from to transfer (now input))) .number ⌝ }
-    ensures { λ r. ⌜ r ≡ next book (Begin from to transfer (now (input .entry))) ⌝ }
+    ensures { λ r. ⌜ (number ≡ answerOf (answer book (Begin from to transfer (now (input .entry)))) .number
+        → r ≡ next book (Begin from to transfer (now (input .entry)))) ⌝ }
 {
     if number == 0 {
         return begin::begun(book, from, to, transfer, input);
@@ -39,8 +39,7 @@ pub fn begin_after(book: Book, from: u8, to: u8, transfer: u8, number: u8, input
 }
 
 pub fn finish_after(book: Book, t: u8, number: u8) -> Book
-    requires { ⌜ number ≡ answerOf (answer book (Finish t)) .number ⌝ }
-    ensures { λ r. ⌜ r ≡ next book (Finish t) ⌝ }
+    ensures { λ r. ⌜ (number ≡ answerOf (answer book (Finish t)) .number → r ≡ next book (Finish t)) ⌝ }
 {
     if number == 0 {
         return finish::finished(book, t);

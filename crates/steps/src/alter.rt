@@ -2,7 +2,7 @@
 ghost use mathlib.Core.Path.{_≡_};
 ghost use Prim.Native.Nat.{_<_};
 ghost use Rattle.amount.specs.Numbers.{val};
-ghost use Rattle.book.specs.Book.{wholeAmount, setBalance, openPlace, setCredits, setTransfer, blankTransfer};
+ghost use Rattle.book.specs.Book.{wholeAmount, setBalance, openPlace, setTransfer, blankTransfer};
 use crate::sets;
 use amount::Amount;
 use amount::Uint128;
@@ -32,22 +32,6 @@ pub fn holding(place: Place, n: Uint128) -> Place
         scale: 0,
     };
     Place { subject, balance }
-}
-
-// Place p with n credits.
-pub fn with_credits(mut book: Book, p: u8, n: Uint128) -> Book
-    requires { ⌜ p < 16 ⌝ }
-    ensures { λ r. ⌜ r ≡ setCredits book p (val n) ⌝ }
-{
-    let i = p as usize;
-    let place = book.places[i];
-    let subject = place.subject;
-    let balance = Amount {
-        mantissa: n,
-        scale: 0,
-    };
-    book.places[i] = Place { subject, balance };
-    book
 }
 
 // Transfer t is under way, and its record is r.

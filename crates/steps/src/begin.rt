@@ -1,14 +1,16 @@
 // A begin: the amount leaves the source and is under way to the destination.
 ghost use mathlib.Core.Path.{_≡_};
-ghost use mathlib.Core.Bool.{_||_};
+ghost use mathlib.Core.Bool.{true, _||_};
 ghost use mathlib.Core.List.{List};
-ghost use Prim.Native.Nat.{ℕ, _≤_};
+ghost use Prim.Native.Nat.{ℕ, _≤_, _<_};
 ghost use lib.Dec.{leb};
-ghost use lib.ListN.{take};
-ghost use Rattle.sheet.specs.Fields.{field, text, to-subject};
-ghost use Rattle.profiles.specs.Readers.{amountIn};
+ghost use lib.ListN.{set, take};
+ghost use Rattle.sheet.specs.Fields.{field, text, to-subject, amount};
+ghost use Rattle.profiles.specs.Readers.{amountIn, readAmount};
 ghost use Rattle.profiles.specs.Balance.{balanceRules};
 ghost use Rattle.places.specs.Places.{placeView, putField};
+ghost use Rattle.book.specs.Book.{placeRecord, setPlaces, setTransfer, wellFormed};
+ghost use Rattle.book.specs.declared.Book.{Book};
 ghost use Rattle.book.specs.Steps.{Begin, answer, next, effect};
 ghost use Rattle.book.specs.declared.error.BookOutcome.the-variants.{Accepted};
 use crate::alter;
@@ -17,6 +19,8 @@ use crate::sets;
 use crate::soundness;
 use amount::Amount;
 use book::Book;
+use book::Name;
+use book::Place;
 use book::Transfer;
 use book::error::BookError;
 use book::error::BookOutcome;
@@ -51,37 +55,65 @@ fn check_sending(bytes: [u8; 32], len: u8, held: Amount, input: &[u8]) -> Outcom
     places::check_debit_at(held, input)
 }
 
-// 28, 22, 24, 21, 6, 2, balance.transfer's check.
-pub fn begin_outcome(book: Book, from: u8, to: u8, transfer: u8, input: &[u8]) -> BookOutcome
-    ensures { λ r. ⌜ r ≡ answer book (Begin from to transfer (now (input .entry))) ⌝ }
+// 22, 24, 21, 6, 2, balance.transfer's check: begin's answer on any sound book with those open places and transfers under way, that
+// balance at the source and that subject at the destination. A subject of over 32 bytes is met with no such book.
+pub fn begin_seen(
+    opened: u16,
+    pending: u8,
+    held: Amount,
+    aim: Name,
+    from: u8,
+    to: u8,
+    transfer: u8,
+    input: &[u8],
+) -> BookOutcome
+    ensures { λ r. ⌜ ((b : Book) → wellFormed b ≡ true → opened ≡ b .opened → pending ≡ b .pending
+        → (from < 16 → held ≡ placeRecord b from .balance) → (to < 16 → aim ≡ placeRecord b to .subject)
+        → r ≡ answer b (Begin from to transfer (now (input .entry)))) ⌝ }
 {
-    if !soundness::well_formed(book) {
-        return BookOutcome::Refused(BookError::BadBook);
-    }
     if off_the_book(from, to, transfer) {
         return BookOutcome::Refused(BookError::OffTheBook);
     }
     if from == to {
         return BookOutcome::Refused(BookError::Itself);
     }
-    let pending = book.pending;
     if sets::has8(pending, transfer) {
         return BookOutcome::Refused(BookError::UnderWay);
     }
-    let opened = book.opened;
     if !sets::both16(opened, from, to) {
         return BookOutcome::Refused(BookError::Profile(ProfileError::Unborn));
     }
     if let Outcome::Refused(e) = registry::require_sound_input(input) {
         return BookOutcome::Refused(BookError::Profile(e));
     }
-    let i = from as usize;
+    if 32 < aim.len {
+        return BookOutcome::Refused(BookError::BadBook);
+    }
+    let bytes = aim.bytes;
+    reads::said(check_sending(bytes, aim.len, held, input))
+}
+
+// 28, then the rest.
+pub fn begin_outcome(book: Book, from: u8, to: u8, transfer: u8, input: &[u8]) -> BookOutcome
+    ensures { λ r. ⌜ r ≡ answer book (Begin from to transfer (now (input .entry))) ⌝ }
+{
+    if !soundness::well_formed(book) {
+        return BookOutcome::Refused(BookError::BadBook);
+    }
+    let i = (from % 16) as usize;
     let source = book.places[i];
-    let j = to as usize;
+    let j = (to % 16) as usize;
     let aim = book.places[j];
-    let name = aim.subject;
-    let bytes = name.bytes;
-    reads::said(check_sending(bytes, name.len, source.balance, input))
+    begin_seen(
+        book.opened,
+        book.pending,
+        source.balance,
+        aim.subject,
+        from,
+        to,
+        transfer,
+        input,
+    )
 }
 
 // The book after it; a refused one leaves it as it was.
@@ -94,16 +126,31 @@ pub fn begin_book(book: Book, from: u8, to: u8, transfer: u8, input: &[u8]) -> B
     }
 }
 
-pub fn begun(book: Book, from: u8, to: u8, transfer: u8, input: &[u8]) -> Book
-    requires { ⌜ answer book (Begin from to transfer (now input)) ≡ Accepted ⌝ }
-    ensures { λ r. ⌜ r ≡ effect book (Begin from to transfer (now (input .entry))) ⌝ }
+// Where it is accepted.
+pub fn begun(mut book: Book, from: u8, to: u8, transfer: u8, input: &[u8]) -> Book
+    ensures { λ r. ⌜ (answer book (Begin from to transfer (now (input .entry))) ≡ Accepted
+        → r ≡ effect book (Begin from to transfer (now (input .entry)))) ⌝ }
 {
+    if off_the_book(from, to, transfer) {
+        return book;
+    }
     let i = from as usize;
-    let source = book.places[i];
-    let held = source.balance;
+    let x = book.places[i];
+    book.places[i] = begin_record(x, input);
+    let amount = reads::asked(input, sheet::AMOUNT);
+    alter::with_transfer(book, transfer, Transfer { from, to, amount })
+}
+
+// The source's record after an accepted begin: x with the amount less.
+pub fn begin_record(x: Place, input: &[u8]) -> Place
+    ensures { λ r. ⌜ ((b : Book) (f g t : ℕ) → answer b (Begin f g t (now (input .entry))) ≡ Accepted → x ≡ placeRecord b f
+        → setTransfer (setPlaces b (set (b .places) f r)) t 1
+        (record { from = f; to = g; amount = readAmount (amountIn amount (field (now (input .entry)) amount)) })
+        ≡ effect b (Begin f g t (now (input .entry)))) ⌝ }
+{
+    let held = x.balance;
     let amount = reads::asked(input, sheet::AMOUNT);
     let less = held.checked_sub(amount).given();
     let left = less.amount;
-    let paid = alter::with_credits(book, from, left.mantissa);
-    alter::with_transfer(paid, transfer, Transfer { from, to, amount })
+    alter::holding(x, left.mantissa)
 }

@@ -1,35 +1,43 @@
 // The finish of a transfer: its amount joins the destination's balance, and its number is free again.
 ghost use mathlib.Core.Path.{_≡_};
-ghost use Prim.Native.Nat.{_+_, _<_};
-ghost use Rattle.amount.specs.Numbers.{val, limit};
-ghost use Rattle.book.specs.Book.{credits, setBalance, wholeAmount};
+ghost use mathlib.Core.Bool.{true};
+ghost use Prim.Native.Nat.{ℕ, _<_};
+ghost use lib.ListN.{set};
+ghost use Rattle.book.specs.Book.{wellFormed, placeRecord, transferRecord, blankTransfer, setPlaces, setTransfer};
+ghost use Rattle.book.specs.declared.Book.{Book};
 ghost use Rattle.book.specs.Steps.{Finish, answer, next, effect};
 ghost use Rattle.book.specs.declared.error.BookOutcome.the-variants.{Accepted};
 use crate::alter;
 use crate::sets;
 use crate::soundness;
 use amount::Checked;
-use amount::Uint128;
 use book::Book;
 use book::Place;
+use book::Transfer;
 use book::error::BookError;
 use book::error::BookOutcome;
 
-// 28, 22, 23.
+// 22, 23: finish's answer on any sound book with that set of transfers under way.
+pub fn finish_seen(pending: u8, t: u8) -> BookOutcome
+    ensures { λ r. ⌜ ((b : Book) → wellFormed b ≡ true → pending ≡ b .pending → r ≡ answer b (Finish t)) ⌝ }
+{
+    if 7 < t {
+        return BookOutcome::Refused(BookError::OffTheBook);
+    }
+    if !sets::has8(pending, t) {
+        return BookOutcome::Refused(BookError::Idle);
+    }
+    BookOutcome::Accepted
+}
+
+// 28, then the rest.
 pub fn finish_outcome(book: Book, t: u8) -> BookOutcome
     ensures { λ r. ⌜ r ≡ answer book (Finish t) ⌝ }
 {
     if !soundness::well_formed(book) {
         return BookOutcome::Refused(BookError::BadBook);
     }
-    if 7 < t {
-        return BookOutcome::Refused(BookError::OffTheBook);
-    }
-    let pending = book.pending;
-    if !sets::has8(pending, t) {
-        return BookOutcome::Refused(BookError::Idle);
-    }
-    BookOutcome::Accepted
+    finish_seen(book.pending, t)
 }
 
 // The book after it; a refused one leaves it as it was.
@@ -42,29 +50,35 @@ pub fn finish_book(book: Book, t: u8) -> Book
     }
 }
 
+// Where it is accepted.
 pub fn finished(mut book: Book, t: u8) -> Book
-    requires { ⌜ answer book (Finish t) ≡ Accepted ⌝ }
-    ensures { λ r. ⌜ r ≡ effect book (Finish t) ⌝ }
+    ensures { λ r. ⌜ (answer book (Finish t) ≡ Accepted → r ≡ effect book (Finish t)) ⌝ }
 {
+    if 7 < t {
+        return book;
+    }
     let i = t as usize;
-    let r = book.transfers[i];
-    let load = r.amount;
-    let k = r.to as usize;
-    let place = book.places[k];
-    let paid = credited(place, load.mantissa);
-    book.places[k] = paid;
+    let load = book.transfers[i];
+    let to = load.to;
+    if 15 < to {
+        return book;
+    }
+    let k = to as usize;
+    let x = book.places[k];
+    book.places[k] = finish_record(x, load);
     alter::freed(book, t)
 }
 
-// A place with n credits more.
-fn credited(place: Place, n: Uint128) -> Place
-    requires { ⌜ credits (place .balance) + val n < limit ⌝ }
-    ensures { λ r. ⌜ r ≡ setBalance place (wholeAmount (credits (place .balance) + val n)) ⌝ }
+// The destination's record after an accepted finish: x with the load's credits more.
+pub fn finish_record(x: Place, load: Transfer) -> Place
+    ensures { λ r. ⌜ ((b : Book) (t : ℕ) → answer b (Finish t) ≡ Accepted → load ≡ transferRecord b t → load .to < 16
+        → x ≡ placeRecord b (load .to) → setTransfer (setPlaces b (set (b .places) (load .to) r)) t 0 blankTransfer ≡ effect b (Finish t)) ⌝ }
 {
-    let held = place.balance;
+    let held = x.balance;
     let held_now = held.mantissa;
-    match held_now.checked_add(n) {
-        Checked::Some(m) => alter::holding(place, m),
-        Checked::None => place,
+    let amount = load.amount;
+    match held_now.checked_add(amount.mantissa) {
+        Checked::Some(m) => alter::holding(x, m),
+        Checked::None => x,
     }
 }

@@ -1,5 +1,11 @@
 // An opening of a place: a subject with its first balance.
 ghost use mathlib.Core.Path.{_≡_};
+ghost use mathlib.Core.Bool.{true};
+ghost use Prim.Native.Nat.{ℕ};
+ghost use Rattle.amount.specs.Numbers.{val};
+ghost use Rattle.book.specs.Book as book;
+ghost use Rattle.book.specs.Book.{openPlace, wellFormed};
+ghost use Rattle.book.specs.declared.Book.{Book};
 ghost use Rattle.book.specs.Steps.{Open, answer, next, effect};
 ghost use Rattle.book.specs.declared.error.BookOutcome.the-variants.{Accepted};
 use crate::alter;
@@ -8,7 +14,10 @@ use crate::sets;
 use crate::soundness;
 use crate::start;
 use crate::totals;
+use amount::Checked;
+use amount::Uint128;
 use book::Book;
+use book::Name;
 use book::Place;
 use book::error::BookError;
 use book::error::BookOutcome;
@@ -16,18 +25,18 @@ use profiles::error::Outcome;
 use profiles::error::ProfileError;
 use profiles::registry;
 
-// 28, 22, 5, 2, create's check, 26, 27, 25.
-pub fn open_outcome(book: Book, place: u8, input: &[u8]) -> BookOutcome
-    ensures { λ r. ⌜ r ≡ answer book (Open place (now (input .entry))) ⌝ }
+// 22, 5, 2, create's check, 26, 27, 25: open's answer on any sound book with that unit, those open places and that total.
+// The first test is met with no such book.
+pub fn open_seen(unit: Name, opened: u16, total: Uint128, place: u8, input: &[u8]) -> BookOutcome
+    ensures { λ r. ⌜ ((b : Book) → wellFormed b ≡ true → unit ≡ b .unit → opened ≡ b .opened → val total ≡ book.total b
+        → r ≡ answer b (Open place (now (input .entry)))) ⌝ }
 {
-    let total = soundness::sound_total(book);
-    if !totals::in_range(total) {
+    if 32 < unit.len {
         return BookOutcome::Refused(BookError::BadBook);
     }
     if 15 < place {
         return BookOutcome::Refused(BookError::OffTheBook);
     }
-    let opened = book.opened;
     if sets::has16(opened, place) {
         return BookOutcome::Refused(BookError::Profile(ProfileError::Born));
     }
@@ -37,7 +46,6 @@ pub fn open_outcome(book: Book, place: u8, input: &[u8]) -> BookOutcome
     if let Outcome::Refused(e) = places::check_create_at(input) {
         return BookOutcome::Refused(BookError::Profile(e));
     }
-    let unit = book.unit;
     let bytes = unit.bytes;
     if !reads::same_text(bytes, unit.len, registry::text(input, sheet::UNIT)) {
         return BookOutcome::Refused(BookError::OtherUnit);
@@ -47,8 +55,17 @@ pub fn open_outcome(book: Book, place: u8, input: &[u8]) -> BookOutcome
         return BookOutcome::Refused(BookError::LongName(sheet::SUBJECT));
     }
     let a = reads::asked(input, sheet::BALANCE);
-    let n = a.mantissa;
-    totals::room(total, n)
+    totals::room(total, a.mantissa)
+}
+
+// 28, then the rest.
+pub fn open_outcome(book: Book, place: u8, input: &[u8]) -> BookOutcome
+    ensures { λ r. ⌜ r ≡ answer book (Open place (now (input .entry))) ⌝ }
+{
+    let Checked::Some(total) = soundness::sound_total(book) else {
+        return BookOutcome::Refused(BookError::BadBook);
+    };
+    open_seen(book.unit, book.opened, total, place, input)
 }
 
 // The book after it; a refused one leaves it as it was.
@@ -61,11 +78,23 @@ pub fn open_book(book: Book, place: u8, input: &[u8]) -> Book
     }
 }
 
+// Where it is accepted.
 pub fn opened_at(book: Book, place: u8, input: &[u8]) -> Book
-    requires { ⌜ answer book (Open place (now input)) ≡ Accepted ⌝ }
-    ensures { λ r. ⌜ r ≡ effect book (Open place (now (input .entry))) ⌝ }
+    ensures { λ r. ⌜ (answer book (Open place (now (input .entry))) ≡ Accepted
+        → r ≡ effect book (Open place (now (input .entry)))) ⌝ }
 {
-    let subject = start::name_of(registry::text(input, sheet::SUBJECT));
+    if 15 < place {
+        return book;
+    }
+    alter::with_place(book, place, open_record(input))
+}
+
+// The place's record after an accepted open: the sheet's subject and balance.
+pub fn open_record(input: &[u8]) -> Place
+    ensures { λ r. ⌜ ((b : Book) (p : ℕ) → answer b (Open p (now (input .entry))) ≡ Accepted
+        → openPlace b p r ≡ effect b (Open p (now (input .entry)))) ⌝ }
+{
+    let subject = start::short_name(registry::text(input, sheet::SUBJECT));
     let balance = reads::asked(input, sheet::BALANCE);
-    alter::with_place(book, place, Place { subject, balance })
+    Place { subject, balance }
 }

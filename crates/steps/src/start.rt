@@ -30,6 +30,16 @@ pub fn name_of(text: &[u8]) -> Name
     }
 }
 
+// The same of any text; one of over 32 bytes is no name.
+pub fn short_name(text: &[u8]) -> Name
+    ensures { λ r. ⌜ (length (now (text .entry)) ≤ 32 → r ≡ nameOf (now (text .entry))) ⌝ }
+{
+    if 32 < text.len() {
+        return blank_name();
+    }
+    name_of(text)
+}
+
 // 9 and 27 of the unit.
 pub fn start_outcome(unit: &[u8]) -> BookOutcome
     ensures { λ r. ⌜ r ≡ startAnswer (now (unit .entry)) ⌝ }

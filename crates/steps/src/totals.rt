@@ -1,7 +1,8 @@
 // The total of a book: the open places' balances and the loads under way, where 128 bits hold it.
 ghost use mathlib.Core.Path.{_≡_};
-ghost use mathlib.Core.Bool.{not};
-ghost use Rattle.amount.specs.Numbers.{val, checked};
+ghost use Prim.Native.Nat.{_+_};
+ghost use lib.Dec.{leb};
+ghost use Rattle.amount.specs.Numbers.{val, checked, limit};
 ghost use Rattle.book.specs.Book.{balances, loads, total};
 ghost use Rattle.book.specs.Steps.{refusedIf};
 ghost use Rattle.book.specs.declared.error.BookError.the-variants.{TooMuch};
@@ -85,11 +86,11 @@ pub fn in_range(sum: Checked) -> bool
 }
 
 // 25: n credits more than a total.
-pub fn room(sum: Checked, n: Uint128) -> BookOutcome
-    ensures { λ r. ⌜ r ≡ refusedIf (not (inRange (more sum (val n)))) TooMuch ⌝ }
+pub fn room(sum: Uint128, n: Uint128) -> BookOutcome
+    ensures { λ r. ⌜ r ≡ refusedIf (leb limit (val sum + val n)) TooMuch ⌝ }
 {
-    if !in_range(plus(sum, n)) {
-        return BookOutcome::Refused(BookError::TooMuch);
+    match sum.checked_add(n) {
+        Checked::Some(_) => BookOutcome::Accepted,
+        Checked::None => BookOutcome::Refused(BookError::TooMuch),
     }
-    BookOutcome::Accepted
 }

@@ -1,6 +1,5 @@
 use Rattle.steps.proofs.Carried.{next-done, next-kept}
 use Rattle.book.specs.Steps.{Step, Begin}
-use mathlib.Core.Path.{sym, _∙_}
 use borrow.Author.Needs.{needs}
 use Rattle.steps.proofs.begin.begin_book.Statement.{statement}
 use Rattle.steps.proofs.begin.begin_book.Tie as tie
@@ -15,7 +14,7 @@ enum-told : tie.Need-enum-told
 enum-told c = search needs
 
 begun-requires : tie.Need-begun-requires
-begun-requires c κs = sym (c .before .before .begin-outcome .ensures) ∙ c .enum-told .given .1
+begun-requires c κs = search needs
 
 enum-told-2 : tie.Need-enum-told-2
 enum-told-2 c = search needs

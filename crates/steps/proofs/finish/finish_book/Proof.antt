@@ -1,6 +1,5 @@
 use Rattle.steps.proofs.Carried.{next-done, next-kept}
 use Rattle.book.specs.Steps.{Step, Finish}
-use mathlib.Core.Path.{sym, _∙_}
 use borrow.Author.Needs.{needs}
 use Rattle.steps.proofs.finish.finish_book.Statement.{statement}
 use Rattle.steps.proofs.finish.finish_book.Tie as tie
@@ -15,7 +14,7 @@ enum-told : tie.Need-enum-told
 enum-told c = search needs
 
 finished-requires : tie.Need-finished-requires
-finished-requires c κs = sym (c .before .before .finish-outcome .ensures) ∙ c .enum-told .given .1
+finished-requires c κs = search needs
 
 enum-told-2 : tie.Need-enum-told-2
 enum-told-2 c = search needs

@@ -1,51 +1,73 @@
-use Rattle.steps.proofs.Carried.{finish-low, finish-to, finish-fits, finish-done}
-use Rattle.book.specs.declared.Book.{Book}
-use Rattle.book.specs.declared.Place.{Place}
-use Rattle.book.specs.Book.{setPlaces, setCredits, placeRecord, transferRecord}
-use lib.ListN.{set}
+use Rattle.steps.proofs.Carried.{finish-low, finish-to}
+use Rattle.book.specs.Book.{placeRecord, transferRecord}
 use native.Mathlib.Omega.{arith}
-use mathlib.Core.Path.{ap, _∙_}
+use Prim.Native.Nat.{_≤_, _<_}
+use mathlib.Core.Path.{refl, _∙_}
 use borrow.Author.Needs.{needs}
 use Rattle.steps.proofs.finish.finished.Statement.{statement}
 use Rattle.steps.proofs.finish.finished.Tie as tie
 
-mul-r : tie.Need-mul-r
-mul-r c = search needs
+-- what is tested, read and stored is the place that the transfer goes to
+high : (c : tie.Then2) → 15 < transferRecord (c .before .before .before .args .t1) (c .before .before .before .args .t) .to
+unfolding transferRecord
+high c = c .if2 .taken
 
-element-copy-out-r : tie.Need-element-copy-out-r
-element-copy-out-r c = finish-low (c .args .t1) (c .args .t) (c .pre)
+low : (c : tie.Else2) → transferRecord (c .before .before .before .args .t1) (c .before .before .before .args .t) .to ≤ 15
+unfolding transferRecord
+low c = c .if2 .left
+
+returns : tie.Need-returns
+returns c h = absurd (omega (arith, finish-low (c .before .args .t1) (c .before .args .t) h, c .if1 .taken))
+
+mul-load : tie.Need-mul-load
+mul-load c = search needs
+
+element-copy-out-load : tie.Need-element-copy-out-load
+element-copy-out-load c = search needs
+
+returns-2 : tie.Need-returns-2
+returns-2 c h = let x = c .before .before .before .args in absurd (omega (arith, finish-to (x .t1) (x .t) h (omega arith), high c))
 
 cast-k : tie.Need-cast-k
 cast-k c = search needs
 
-mul-place : tie.Need-mul-place
-mul-place c = search needs
+mul-x : tie.Need-mul-x
+mul-x c = search needs
 
-element-copy-out-place : tie.Need-element-copy-out-place
-unfolding transferRecord
-element-copy-out-place c = let x = c .before .before .before in finish-to (x .args .t1) (x .args .t) (x .pre) (omega arith)
+element-copy-out-x : tie.Need-element-copy-out-x
+element-copy-out-x c = search needs
 
-credited-requires : tie.Need-credited-requires
-unfolding transferRecord placeRecord
-credited-requires c κs = let x = c .before .before .before .before in finish-fits (x .args .t1) (x .args .t) (x .pre) (omega arith)
+finish-record-requires : tie.Need-finish-record-requires
+finish-record-requires c κs = search needs
 
-mul-paid : tie.Need-mul-paid
-mul-paid c = search needs
+mul-t10 : tie.Need-mul-t10
+mul-t10 c = search needs
 
-element-set-from-paid : tie.Need-element-set-from-paid
-unfolding transferRecord
-element-set-from-paid c = let x = c .before .before .before .before .before in finish-to (x .args .t1) (x .args .t) (x .pre) (omega arith)
+element-set-from-book : tie.Need-element-set-from-book
+element-set-from-book c = search needs
 
 freed-requires : tie.Need-freed-requires
-freed-requires c κs = let x = c .before .before .before .before .before in finish-low (x .args .t1) (x .args .t) (x .pre)
+freed-requires c κs = search needs
 
-returns : tie.Need-returns
-unfolding transferRecord placeRecord setCredits
-returns c =
+returns-3 : tie.Need-returns-3
+unfolding transferRecord placeRecord
+returns-3 c h =
     let x = c .before .before .before .before .before .before .args in
-    let put : Place → Book = λ y. setPlaces (x .t1) (set (x .t1 .places) (transferRecord (x .t1) (x .t) .to) y) in
-    c .freed .ensures ∙ finish-done (x .t1) (x .t) _ (ap put (c .before .credited .ensures))
+    c .freed .ensures ∙ c .before .finish-record .ensures (x .t1) (x .t) h refl (omega (arith, low (c .before .before .before))) refl
 
 pub finished-spec : {M : Type 1} → statement M
 finished-spec =
-    tie.close (tie.spec mul-r element-copy-out-r cast-k mul-place element-copy-out-place credited-requires mul-paid element-set-from-paid freed-requires returns)
+    tie.close
+    (tie.spec
+    returns
+    mul-load
+    element-copy-out-load
+    returns-2
+    cast-k
+    mul-x
+    element-copy-out-x
+    finish-record-requires
+    mul-t10
+    element-set-from-book
+    freed-requires
+    returns-3)

@@ -1,6 +1,5 @@
 use Rattle.steps.proofs.Carried.{next-done, next-kept}
 use Rattle.book.specs.Steps.{Step, Open}
-use mathlib.Core.Path.{sym, _∙_}
 use borrow.Author.Needs.{needs}
 use Rattle.steps.proofs.open.open_book.Statement.{statement}
 use Rattle.steps.proofs.open.open_book.Tie as tie
@@ -15,7 +14,7 @@ enum-told : tie.Need-enum-told
 enum-told c = search needs
 
 opened-at-requires : tie.Need-opened-at-requires
-opened-at-requires c κs = sym (c .before .before .open-outcome .ensures) ∙ c .enum-told .given .1
+opened-at-requires c κs = search needs
 
 enum-told-2 : tie.Need-enum-told-2
 enum-told-2 c = search needs

@@ -1,4 +1,6 @@
-use Rattle.steps.proofs.Tested.{formed-by}
+use Rattle.steps.proofs.Sound.{sound-so}
+use Rattle.steps.specs.Totals.{inRange}
+use mathlib.Core.Path.{ap, _∙_}
 use borrow.Author.Needs.{needs}
 use Rattle.steps.proofs.soundness.well_formed.Statement.{statement}
 use Rattle.steps.proofs.soundness.well_formed.Tie as tie
@@ -10,7 +12,7 @@ in-range-requires : tie.Need-in-range-requires
 in-range-requires c κs = search needs
 
 returns : tie.Need-returns
-returns c = formed-by _ _ _ (c .in-range .ensures) (c .before .sound-total .ensures)
+returns c = c .in-range .ensures ∙ ap inRange (c .before .sound-total .ensures) ∙ sound-so _
 
 pub well-formed-spec : {M : Type 1} → statement M
 well-formed-spec = tie.close (tie.spec sound-total-requires in-range-requires returns)

@@ -1,21 +1,29 @@
-use Rattle.steps.specs.Totals.{inRange}
-use borrow.Author.Tests.{not-true, not-false}
-use mathlib.Core.Path.{sym, ap, _∙_}
+use Rattle.steps.proofs.Sums.{fits-so, passes-so}
+use Rattle.amount.specs.Numbers.{val, limit}
+use Prim.Native.Nat.{ℕ, _+_}
+use borrow.Author.Tests.{le-leb, lt-leb}
 use borrow.Author.Needs.{needs}
 use Rattle.steps.proofs.totals.room.Statement.{statement}
 use Rattle.steps.proofs.totals.room.Tie as tie
 
-plus-requires : tie.Need-plus-requires
-plus-requires c κs = search needs
+abbrev raised : tie.Start → ℕ
+raised c = val (c .args .sum) + val (c .args .n)
 
-in-range-requires : tie.Need-in-range-requires
-in-range-requires c κs = search needs
+checked-add-requires : tie.Need-checked-add-requires
+checked-add-requires c κs = search needs
+
+enum-told : tie.Need-enum-told
+enum-told c = search needs
+
+enum-told-2 : tie.Need-enum-told-2
+enum-told-2 c = search needs
 
 returns : tie.Need-returns
-returns c = rw (ap inRange (sym (c .before .before .plus .ensures)) ∙ sym (c .before .in-range .ensures) ∙ not-true _ (c .if1 .taken))
+returns c = rw (lt-leb limit (raised (c .before .before .before)) (fits-so _ _ _ (c .before .before .checked-add .ensures) (c .enum-told .given .1) .0))
 
 returns-2 : tie.Need-returns-2
-returns-2 c = rw (ap inRange (sym (c .before .before .plus .ensures)) ∙ sym (c .before .in-range .ensures) ∙ not-false _ (c .if1 .left))
+returns-2 c =
+    rw (le-leb limit (raised (c .before .before .before)) (passes-so _ _ (c .before .before .checked-add .ensures) (c .enum-told2 .given .1)))
 
 pub room-spec : {M : Type 1} → statement M
-room-spec = tie.close (tie.spec plus-requires in-range-requires returns returns-2)
+room-spec = tie.close (tie.spec checked-add-requires enum-told enum-told-2 returns returns-2)
