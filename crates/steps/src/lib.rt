@@ -17,6 +17,7 @@ pub use act::act_book;
 pub use act::act_outcome;
 pub use act::act_record;
 pub use act::act_seen;
+pub use act::is_adding;
 pub use after::act_after;
 pub use after::begin_after;
 pub use after::finish_after;
