@@ -92,6 +92,10 @@ module _ {M : Type 1} (𝓤 : URA M) (H : Heap 𝓤) (A : Atoms 𝓤) (W : Given
   abbrev after : Book
   after = next h (Finish t)
 
+  -- what the second says: the premise is met by the number that it is given
+  abbrev Next : Book → Type 0
+  Next z = told .number ≡ told .number → z ≡ after
+
   abbrev Post : Val → SProp 𝓤
   Post = walkOf 𝓤 H A f.ended stayed (f.clauses 𝓤 H A at-mem run) .post (((κ, tt), (q, tt), tt, x, at), tt)
 
@@ -112,15 +116,15 @@ module _ {M : Type 1} (𝓤 : URA M) (H : Heap 𝓤) (A : Atoms 𝓤) (W : Given
   said-answer : (z : Answer) → ent 𝓤 (ensured 𝓤 H A a.ended (a.clauses 𝓤 H A at-mem run) tt (h, (t, tt)) tt z) (fact 𝓤 (z ≡ told))
   said-answer z = exE 𝓤 _ (λ ws. snd∗ 𝓤 (sem 𝓤 H A (lasts a.ended tt (h, (t, tt)) ws)) (fact 𝓤 (z ≡ told)))
 
-  said-next : (z : Book) → ent 𝓤 (ensured 𝓤 H A n.ended (n.clauses 𝓤 H A at-mem run) tt (h, (t, (told .number, tt))) tt z) (fact 𝓤 (z ≡ after))
-  said-next z = exE 𝓤 _ (λ ws. snd∗ 𝓤 (sem 𝓤 H A (lasts n.ended tt (h, (t, (told .number, tt))) ws)) (fact 𝓤 (z ≡ after)))
+  said-next : (z : Book) → ent 𝓤 (ensured 𝓤 H A n.ended (n.clauses 𝓤 H A at-mem run) tt (h, (t, (told .number, tt))) tt z) (fact 𝓤 (Next z))
+  said-next z = exE 𝓤 _ (λ ws. snd∗ 𝓤 (sem 𝓤 H A (lasts n.ended tt (h, (t, (told .number, tt))) ws)) (fact 𝓤 (Next z)))
 
   module _ (t-fits : t < 2 ^ 8) where
     gives-answer : ent 𝓤 (⋆ 𝓤 H A (‵ (T.the-row .own h (mach h)) ∷ [])) (Answers 𝓤 H A at-mem run .pre to-answer)
     gives-answer = qed W (‵ (T.the-row .own h (mach h)) ∷ []) ∵ nothing ! $ owned ! u8 (Is u8) (uint-makes 𝓤 H A W w8) t _ (refl, t-fits) $ fjoin ! $ move ! (1 ∷ 0 ∷ []) $ fjoin ! $ nothing ! $ join ! $ frame ! $ done !
 
     gives-next : told .number < 2 ^ 8 → ent 𝓤 (⋆ 𝓤 H A (‵ (T.the-row .own h (mach h)) ∷ [])) (Nexts 𝓤 H A at-mem run .pre to-next)
-    gives-next number-fits = qed W (‵ (T.the-row .own h (mach h)) ∷ []) ∵ says ! refl $ nothing ! $ owned ! u8 (Is u8) (uint-makes 𝓤 H A W w8) (told .number) _ (refl, number-fits) $ fjoin ! $ owned ! u8 (Is u8) (uint-makes 𝓤 H A W w8) t _ (refl, t-fits) $ fjoin ! $ move ! (1 ∷ 0 ∷ []) $ fjoin ! $ nothing ! $ frame ! $ done !
+    gives-next number-fits = qed W (‵ (T.the-row .own h (mach h)) ∷ []) ∵ nothing ! $ owned ! u8 (Is u8) (uint-makes 𝓤 H A W w8) (told .number) _ (refl, number-fits) $ fjoin ! $ owned ! u8 (Is u8) (uint-makes 𝓤 H A W w8) t _ (refl, t-fits) $ fjoin ! $ move ! (1 ∷ 0 ∷ []) $ fjoin ! $ nothing ! $ join ! $ frame ! $ done !
 
     exits : Is R.the-row told (LL.vals R.the-type R′.the-laws told) → ent 𝓤 (⋆ 𝓤 H A (‵ (fobs γ (T.the-row .coded .code after)) ∷ ‵ (fbor κ (Body (mem T.the-row) b o γ)) ∷ ‵ (flft κ q) ∷ [])) (Post (LL.val R.the-type R′.the-laws told))
     exits is =
@@ -152,7 +156,7 @@ module _ {M : Type 1} (𝓤 : URA M) (H : Heap 𝓤) (A : Atoms 𝓤) (W : Given
           owned ! T.the-row (Is T.the-row) (LL.makes T.the-type T′.the-plain 𝓤 H A) h _ was $ use1 W (raw (Nexts 𝓤 H A at-mem run .pre to-next)) (gives-next (LL.owed R.the-type R′.the-laws told _ isa .0 .1)) $
           calls-at ! fm (Nexts 𝓤 H A at-mem run) known-next to-next (and-then ! (load ! (from ! (stop !)) (look ! 5 refl)) (and-then ! (load ! (from ! (stop !)) (look ! 11 refl)) (and-then ! (load ! (from ! (fld ! refl (stop !))) (look-in ! 9 (sub ! 0 refl (whole !)))) (no-more !)))) (λ vb.
           use1 W (later (some (λ (z : Book). (‵ ftrue ⊛ ‵ (T.the-row .own z (vb ∷ []))) ⊛ raw (ensured 𝓤 H A n.ended (n.clauses 𝓤 H A at-mem run) tt (h, (t, (told .number, tt))) tt z)))) (id⊢ 𝓤 _) $ await ! tt $ pick ! (λ zb.
-          split ! $ move ! (1 ∷ []) $ use1 W (raw (fact 𝓤 (zb ≡ after))) (said-next zb) $ heard ! (zb ≡ after) (λ eb. split ! $ drop ! $ rewrite ! 0 (λ (y : Book). ‵ (T.the-row .own y (vb ∷ []))) eb refl $
+          split ! $ move ! (1 ∷ []) $ use1 W (raw (fact 𝓤 (Next zb))) (said-next zb) $ heard ! (Next zb) (λ eb. split ! $ drop ! $ rewrite ! 0 (λ (y : Book). ‵ (T.the-row .own y (vb ∷ []))) (eb refl) refl $
           peeks ! T.the-row (Is T.the-row) (shows 𝓤 H A T.the-row) after (vb ∷ []) (λ isb.
           -- [what the Book owns; the book's cell; the open borrow; obs; auth; the locals; ..]
           land ! (from ! (stop !)) (store ! 7 refl (LL.lawful T.the-type T′.the-laws 𝓤 H A W .typed after _ isb .0)) $ rewrite ! 7 (λ (y : Val). ‵ (fat fullShare T′.mir l4 0 y)) (ap only (LL.tells T.the-type T′.the-laws after _ isb)) refl $
