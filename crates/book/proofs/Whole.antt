@@ -246,3 +246,7 @@ demand3 u h steps =
 pub some-order : (u : List ℕ) → startAnswer u ≡ Accepted → (steps : List Step)
     → EachOnce (run (startBook u) steps) (members (run (startBook u) steps .pending) 8)
 some-order u h steps = an-order (run (startBook u) steps) (from-start u h steps .inv .good .shape)
+
+-- every book of a run has a book's shape
+pub in-shape : (u : List ℕ) → startAnswer u ≡ Accepted → (steps : List Step) → Shape (run (startBook u) steps)
+in-shape u h steps = from-start u h steps .inv .good .shape

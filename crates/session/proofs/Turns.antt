@@ -1,25 +1,30 @@
 -- The run's loop: what holds after j steps, and what is there at its end. Laws of the book and the answers of a list of steps.
 use mathlib.Core.Path.{_≡_, refl, sym, ap, _∙_}
+use mathlib.Core.Bool.{true}
 use mathlib.Core.List.{List, [], _∷_, _++_}
 use Prim.Native.Nat.{ℕ, zero, suc, _+_, _-_, _≤_, _<_}
 use native.Mathlib.Nat.{le-of-suc-le-suc, not-suc-le-zero}
 use native.Mathlib.Omega.{arith}
 use lib.ListN.{length, getD, set, take, replicate}
 use lib.Seq.{take-all, take-length}
+use Rattle.amount.specs.Numbers.{val, limit}
+use Rattle.amount.specs.declared.uint128.Uint128.{Uint128}
+use Rattle.book.specs.Book.{total, wellFormed}
 use Rattle.book.specs.Refusals.{answerOf}
-use Rattle.book.specs.Steps.{Step, Finish, answer, next, startBook}
-use Rattle.book.specs.Claim.{run}
+use Rattle.book.specs.Steps.{Step, answer, next, startBook}
+use Rattle.book.specs.Claim.{run, keep, issued, taken, Demand3}
 use Rattle.book.specs.declared.Book.{Book}
 use Rattle.book.specs.declared.error.BookOutcome.{BookOutcome}
-use Rattle.session.specs.Session.{count, lineAt, bodyOf, unitOf, stepOf, stepAt, stepsFrom, stepsOf, brief, answersFrom, answersOf, bookOf, noAnswer, filled, goodRun}
+use Rattle.book.proofs.Formed.{formed}
+use Rattle.book.proofs.Views.{Shape}
+use Rattle.book.proofs.Whole.{demand3, in-shape}
+use Rattle.session.specs.Session.{count, lineAt, bodyOf, unitOf, stepOf, stepAt, stepsFrom, stepsOf, brief, answersFrom, answersOf, bookOf, noAnswer, filled, good, goodRun}
 use Rattle.session.specs.declared.Line.{Line}
 use Rattle.session.specs.declared.StepAnswer.{StepAnswer}
+use Rattle.session.proofs.Walking.{good-start}
+use Rattle.session.proofs.Totals.{noStep, total-next}
 
 -- ---- lists of steps
-
--- what the logic reads past the last step; no claim turns on it
-abbrev noStep : Step
-noStep = Finish 0
 
 steps-length : (s : List ℕ) (m k : ℕ) → length (stepsFrom s k m) ≡ m
 unfolding stepsFrom
@@ -59,13 +64,11 @@ put-one (x ∷ t) m (suc i) h = ap (λ (l : List StepAnswer). x ∷ l) (put-one 
 
 -- ---- the loop
 
--- after j steps: the book is theirs, and so are the answers, filled up with zeros
-pub record Ran (s : List ℕ) (b : Book) (l : List StepAnswer) (j : ℕ) : Type 0 where
+-- after j steps: the book is theirs, n is its total, and the answers are theirs, filled up with zeros
+pub record Ran (s : List ℕ) (b : Book) (n : Uint128) (l : List StepAnswer) (j : ℕ) : Type 0 where
   pub book : b ≡ run (startBook (unitOf s)) (take j (stepsOf s))
+  pub sum : val n ≡ total b
   pub answers : l ≡ take j (answersOf s) ++ replicate (255 - j) noAnswer
-
-pub ran-none : (s : List ℕ) → Ran s (startBook (unitOf s)) (replicate 255 noAnswer) 0
-ran-none s = record { book = refl; answers = refl }
 
 module _ (s : List ℕ) where
   -- entry two is step 1
@@ -91,32 +94,53 @@ module _ (s : List ℕ) where
     unfolding answersOf
     answer-of = answer-at (stepsOf s) (startBook (unitOf s)) j (omega (arith, count-steps)) ∙ rw step-of
 
-  module _ (b : Book) (l : List StepAnswer) (j : ℕ) (r : Ran s b l j) where
-    -- one turn: the entry and its body are read, the step is asked, then done
-    pub ran-next : (t : Line) (x : StepAnswer) (c : Book) {d e : List ℕ} {o : BookOutcome}
-        → t ≡ lineAt s (j + 1) → d ≡ bodyOf s t → o ≡ answer b (stepOf t d) → x ≡ brief (answerOf o) → e ≡ bodyOf s t → c ≡ next b (stepOf t e)
-        → j < count s - 1 → count s ≤ 256 → Ran s c (set l j x) (j + 1)
-    ran-next t x c t-is d-is o-is x-of e-is c-is h few =
-        let p : c ≡ next b (stepAt s (j + 1)) = c-is ∙ rw (e-is, t-is) in
-        let q : x ≡ brief (answerOf (answer b (stepAt s (j + 1)))) = x-of ∙ rw (o-is, d-is, t-is) in
+module _ (s : List ℕ) (g : good s ≡ true) where
+  its-demand3 : Demand3 (unitOf s) (stepsOf s)
+  its-demand3 = demand3 (unitOf s) (good-start s g) (stepsOf s)
+
+  pub ran-none : Ran s (startBook (unitOf s)) (record { hi = 0; lo = 0 }) (replicate 255 noAnswer) 0
+  unfolding val
+  ran-none = record { book = refl; sum = omega (arith, its-demand3 .throughout 0 .conserved); answers = refl }
+
+  module _ (b : Book) (n : Uint128) (l : List StepAnswer) (j : ℕ) (r : Ran s b n l j) where
+    -- no step meets 28
+    pub ran-sound : wellFormed b ≡ true
+    ran-sound = rw (r .book) (its-demand3 .throughout j .well-formed)
+
+    pub ran-shape : Shape b
+    ran-shape = rw (r .book) (in-shape (unitOf s) (good-start s g) (take j (stepsOf s)))
+
+    -- one turn: the entry and its body are read, the step is asked, then done, and the total is brought up to it
+    pub ran-next : (t : Line) (x : StepAnswer) (c : Book) (m : Uint128) {d : List ℕ} {o : BookOutcome}
+        → t ≡ lineAt s (j + 1) → d ≡ bodyOf s t → o ≡ answer b (stepOf t d) → x ≡ brief (answerOf o) → c ≡ next b (stepOf t d)
+        → ((k : ℕ) → k < limit → k + taken (keep o (stepOf t d) []) ≡ val n + issued (keep o (stepOf t d) []) → val m ≡ k)
+        → j < count s - 1 → count s ≤ 256 → Ran s c m (set l j x) (j + 1)
+    ran-next t x c m {d} {o} t-is d-is o-is x-of c-is m-is h few =
+        let w : stepOf t d ≡ stepAt s (j + 1) = rw (d-is, t-is) in
+        let q : x ≡ brief (answerOf (answer b (stepAt s (j + 1)))) = x-of ∙ rw (o-is, w) in
         let e : 255 - j ≡ suc (255 - suc j) = omega arith in
         let i : j + 1 ≡ suc j = omega arith in
         let l-is : l ≡ take j (answersOf s) ++ replicate (suc (255 - suc j)) noAnswer = r .answers ∙ rw e in
-        let x-is : x ≡ getD (answersOf s) j noAnswer = q ∙ rw (r .book) (sym (answer-of j h)) in
+        let x-is : x ≡ getD (answersOf s) j noAnswer = q ∙ rw (r .book) (sym (answer-of s j h)) in
+        let b-is : c ≡ run (startBook (unitOf s)) (take (j + 1) (stepsOf s)) = c-is ∙ rw (w, r .book) (sym (book-next s j h)) in
+        let z : c ≡ run (startBook (unitOf s)) (take (suc j) (stepsOf s)) = rw i at b-is in
         record {
-          book = p ∙ rw (r .book) (sym (book-next j h));
+          book = b-is;
+          sum =
+              m-is (total c) (rw z (formed _ (its-demand3 .throughout (suc j) .well-formed) .fits))
+              (total-next (unitOf s) (good-start s g) (stepsOf s) j (omega (arith, count-steps s)) b c (stepOf t d) o (r .book) z (w ∙ sym (step-of s j h)) o-is ∙ rw (r .sum));
           answers =
               ap (λ (t : List StepAnswer). set t j x) l-is
               ∙ ap (set (take j (answersOf s) ++ replicate (suc (255 - suc j)) noAnswer) j) x-is
-              ∙ put-one (answersOf s) (255 - suc j) j (omega (arith, count-answers))
+              ∙ put-one (answersOf s) (255 - suc j) j (omega (arith, count-answers s))
               ∙ rw i;
         }
 
-    pub ran-all : (n : ℕ) → n + 1 ≡ count s → j ≡ n → record { number = 0; count = n; steps = l; book = b } ≡ goodRun s
+    pub ran-all : (k : ℕ) → k + 1 ≡ count s → j ≡ k → record { number = 0; count = k; steps = l; book = b } ≡ goodRun s
     unfolding goodRun filled bookOf
-    ran-all n h k =
-        let e : j ≡ length (answersOf s) = omega (arith, count-answers) in
-        let m : n ≡ length (answersOf s) = omega (arith, count-answers) in
-        let p : b ≡ run (startBook (unitOf s)) (stepsOf s) = r .book ∙ rw (take-all j (stepsOf s) (omega (arith, count-steps))) in
+    ran-all k h y =
+        let e : j ≡ length (answersOf s) = omega (arith, count-answers s) in
+        let m : k ≡ length (answersOf s) = omega (arith, count-answers s) in
+        let p : b ≡ run (startBook (unitOf s)) (stepsOf s) = r .book ∙ rw (take-all j (stepsOf s) (omega (arith, count-steps s))) in
         let q : l ≡ answersOf s ++ replicate (255 - length (answersOf s)) noAnswer = r .answers ∙ rw (e, take-length (answersOf s)) in
         rw (p, q, m)

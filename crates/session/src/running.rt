@@ -2,41 +2,15 @@
 ghost use mathlib.Core.Path.{_≡_};
 ghost use mathlib.Core.Bool.{true};
 ghost use Rattle.book.specs.Refusals.{answerOf};
-ghost use Rattle.book.specs.Steps.{answer, next};
-ghost use Rattle.session.specs.Session.{unitOf, stepOf, brief, good, badRun, goodRun, runOf};
-use super::Line;
+ghost use Rattle.session.specs.Session.{unitOf, brief, good, badRun, goodRun, runOf};
 use super::Run;
 use super::StepAnswer;
 use super::layout;
-use book::Book;
+use super::turn;
+use super::turn::Touched;
+use amount::Uint128;
 use book::error;
 use book::error::BookOutcome;
-
-// What the step of an entry answers.
-fn step_outcome(book: Book, l: Line, body: &[u8]) -> BookOutcome
-    ensures { λ r. ⌜ r ≡ answer book (stepOf l (now (body .entry))) ⌝ }
-{
-    let kind = l.kind;
-    match kind {
-        1 => steps::open_outcome(book, l.a, body),
-        2 => steps::act_outcome(book, l.a, l.b, body),
-        3 => steps::begin_outcome(book, l.a, l.b, l.t, body),
-        _ => steps::finish_outcome(book, l.t),
-    }
-}
-
-// The book after it.
-fn step_book(book: Book, l: Line, body: &[u8]) -> Book
-    ensures { λ r. ⌜ r ≡ next book (stepOf l (now (body .entry))) ⌝ }
-{
-    let kind = l.kind;
-    match kind {
-        1 => steps::open_book(book, l.a, body),
-        2 => steps::act_book(book, l.a, l.b, body),
-        3 => steps::begin_book(book, l.a, l.b, l.t, body),
-        _ => steps::finish_book(book, l.t),
-    }
-}
 
 // The number and detail of an answer.
 fn step_answer(o: BookOutcome) -> StepAnswer
@@ -87,19 +61,44 @@ fn bad_run() -> Run
 }
 
 // Every step, on the book as the one before left it. Step j + 1 is entry j + 1 of a table counted from 0.
+// No step of a run meets 28, and `total` is the book's: a step is decided and done by the records that it looks at.
 fn do_steps(s: &[u8]) -> Run
     requires { ⌜ good (now s) ≡ true ⌝ }
     ensures { λ r. ⌜ r ≡ goodRun (now (s .entry)) ⌝ }
 {
     let n = sheet::u16_at(s, 0) - 1;
     let mut book = steps::start_book(unit(s));
+    let mut total = Uint128::ZERO;
     let mut answers = [NO_ANSWER; 255];
     let mut j: usize = 0;
     while j < n as usize {
         let l = layout::line_at(s, j + 1);
-        let o = step_outcome(book, l, layout::body(s, l));
+        let body = layout::body(s, l);
+        let k = (l.t % 8) as usize;
+        let load = book.transfers[k];
+        let i = turn::place_of(l, load) as usize;
+        let place = book.places[i];
+        let g = (l.b % 16) as usize;
+        let aim = book.places[g];
+        let was = Touched {
+            place,
+            load,
+            opened: book.opened,
+            pending: book.pending,
+        };
+        let o = turn::outcome(l, body, book.unit, was, aim.subject, total);
+        let Touched {
+            place,
+            load,
+            opened,
+            pending,
+        } = turn::after(o, l, body, was);
+        book.places[i] = place;
+        book.transfers[k] = load;
+        book.opened = opened;
+        book.pending = pending;
+        total = turn::total_after(o, total, l, body);
         answers[j] = step_answer(o);
-        book = step_book(book, l, layout::body(s, l));
         j += 1;
     }
     Run {

@@ -32,7 +32,7 @@ checked-zero : Some (record { hi = 0; lo = 0 }) ≡ checked 0
 unfolding val limit
 checked-zero = ap Some (halves-of (record { hi = 0; lo = 0 }) 0 (lit< tt) refl) ∙ sym (fits 0 (lt-ltb 0 limit (lit< tt)))
 
-pub more-is : (n m : ℕ) → more (checked n) m ≡ checked (n + m)
+more-is : (n m : ℕ) → more (checked n) m ≡ checked (n + m)
 more-is n m = go (ltb n limit) refl
   where
     go : (t : Bool) → ltb n limit ≡ t → more (checked n) m ≡ checked (n + m)

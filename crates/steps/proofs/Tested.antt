@@ -77,7 +77,7 @@ module _ (b : Book) (s : Step) where
 -- ---- what they go by
 
 module _ (b : Book) (p : ℕ) where
-  pub place-closed : has (b .opened) p ≡ false → seen b .place p ≡ closedView
+  place-closed : has (b .opened) p ≡ false → seen b .place p ≡ closedView
   unfolding seen
   place-closed h = ap (viewOf (nameBytes (b .unit))) (place-out b p h)
 
@@ -86,14 +86,14 @@ module _ (b : Book) (p : ℕ) where
   unfolding seen
   place-open h = ap (viewOf (nameBytes (b .unit))) (place-in b p h)
 
-  pub place-there : seen b .place p .there ≡ has (b .opened) p
+  place-there : seen b .place p .there ≡ has (b .opened) p
   place-there = go (has (b .opened) p) refl
     where
       go : (t : Bool) → has (b .opened) p ≡ t → seen b .place p .there ≡ t
       go true h = rw (place-open h)
       go false h = rw (place-closed h)
 
-  pub number-busy : seen b .busy p ≡ has (b .pending) p
+  number-busy : seen b .busy p ≡ has (b .pending) p
   unfolding seen
   number-busy = busy-by b p
 
@@ -108,7 +108,7 @@ module _ (b : Book) (p n : ℕ) (r : Bool) where
   pub busy-as : n ≡ b .pending → r ≡ has n p → seen b .busy p ≡ r
   busy-as e h = number-busy b p ∙ sym (h ∙ ap (λ (m : ℕ). has m p) e)
 
-pub ends-there : (b : Book) (f g : ℕ) → seen b .place f .there && seen b .place g .there ≡ has (b .opened) f && has (b .opened) g
+ends-there : (b : Book) (f g : ℕ) → seen b .place f .there && seen b .place g .there ≡ has (b .opened) f && has (b .opened) g
 ends-there b f g = rw (place-there b f, place-there b g)
 
 -- both ends, by a set that is the book's

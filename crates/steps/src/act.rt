@@ -26,7 +26,7 @@ use profiles::error::ProfileError;
 use profiles::registry;
 
 // The operations that add.
-fn is_adding(operation: u8) -> bool
+pub fn is_adding(operation: u8) -> bool
     ensures { λ r. ⌜ r ≡ adds operation ⌝ }
 {
     if operation == 12 {

@@ -56,7 +56,7 @@ fn check_sending(bytes: [u8; 32], len: u8, held: Amount, input: &[u8]) -> Outcom
 }
 
 // 22, 24, 21, 6, 2, balance.transfer's check: begin's answer on any sound book with those open places and transfers under way, that
-// balance at the source and that subject at the destination. A subject of over 32 bytes is met with no such book.
+// balance at the source and that subject at the destination. No such book has a subject of over 32 bytes there.
 pub fn begin_seen(
     opened: u16,
     pending: u8,

@@ -1,5 +1,6 @@
-// The steps of the book by value, each as two functions: what it answers, and the book after it. The contracts cite the
-// definitions that the overlap claim of `book` is about.
+// The steps of the book by value: what each answers, and the book after it. A step is decided (`act_seen`) and carried out (`act_record`)
+// by the records that it looks at, so that whoever keeps a book need not pass it on. The contracts cite the definitions that the
+// overlap claim of `book` is about.
 mod act;
 mod after;
 mod alter;
@@ -17,6 +18,7 @@ pub use act::act_book;
 pub use act::act_outcome;
 pub use act::act_record;
 pub use act::act_seen;
+pub use act::is_adding;
 pub use after::act_after;
 pub use after::begin_after;
 pub use after::finish_after;

@@ -26,7 +26,7 @@ use profiles::error::ProfileError;
 use profiles::registry;
 
 // 22, 5, 2, create's check, 26, 27, 25: open's answer on any sound book with that unit, those open places and that total.
-// The first test is met with no such book.
+// No such book has a unit that meets the first test.
 pub fn open_seen(unit: Name, opened: u16, total: Uint128, place: u8, input: &[u8]) -> BookOutcome
     ensures { λ r. ⌜ ((b : Book) → wellFormed b ≡ true → unit ≡ b .unit → opened ≡ b .opened → val total ≡ book.total b
         → r ≡ answer b (Open place (now (input .entry)))) ⌝ }
