@@ -51,7 +51,7 @@ fn put_place(out: &mut [u8], at: usize, opened: u16, p: u8, x: Place) -> usize
     requires { ⌜ (at + 50 < 65536) × (x .balance .scale ≡ 0) ⌝ }
     ensures { λ r. ⌜ (r ≤ at + 50) × Wrote (now (out .entry)) at (placeLine p (cond (has opened p) (some x) none)) (now (out .exit)) r ⌝ }
 {
-    if !steps::has16(opened, p) {
+    if !audit::has16(opened, p) {
         return at;
     }
     let word = text::put(out, at, b"place ");
@@ -107,7 +107,7 @@ fn put_last(out: &mut [u8], at: usize, book: Book) -> usize
     ensures { λ r. ⌜ (r ≤ at + 63) × Wrote (now (out .entry)) at (lastLine book) (now (out .exit)) r ⌝ }
 {
     // the total fits
-    let Checked::Some(mantissa) = steps::book_total(book) else {
+    let Checked::Some(mantissa) = audit::book_total(book) else {
         return at;
     };
     let counts = put_counts(out, at, book.opened, book.pending);

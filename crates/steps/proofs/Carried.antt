@@ -27,7 +27,7 @@ use Rattle.book.proofs.Facts.{Finishes, finishes, acts-so, Begins, begins, Open
 use Rattle.book.proofs.Formed.{Formed, formed, and-r}
 use Rattle.book.proofs.Views.{transfer-raw, home-open, open-lt}
 use Rattle.book.proofs.Effects.{asked, asked-whole, held-part, load-part, act-adds, act-takes, begin-takes}
-use Rattle.steps.proofs.Sums.{place-in}
+use Rattle.audit.proofs.Sums.{place-in}
 use Rattle.steps.proofs.Texts.{given-so}
 
 -- ---- the book after a step

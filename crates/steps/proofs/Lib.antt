@@ -1,7 +1,4 @@
 -- The laws that the code of the steps cites.
-pub mod BitCode
-pub mod Sums
-pub mod Sound
 pub mod Texts
 pub mod Same
 pub mod Carried

@@ -23,7 +23,7 @@ use Rattle.book.specs.declared.error.BookOutcome.{BookOutcome}
 use Rattle.book.specs.declared.error.BookOutcome.the-variants.{Accepted, Refused}
 use Rattle.book.proofs.Effects.{asked}
 use Rattle.book.proofs.Formed.{and-l, and-r}
-use Rattle.steps.proofs.Sums.{place-in, place-out, busy-by}
+use Rattle.audit.proofs.Sums.{place-in, place-out, busy-by}
 
 -- ---- in their order
 

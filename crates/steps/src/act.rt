@@ -11,8 +11,6 @@ ghost use Rattle.book.specs.Steps.{Act, answer, next, effect, adds, acts};
 ghost use Rattle.book.specs.declared.error.BookOutcome.the-variants.{Accepted};
 use crate::alter;
 use crate::reads;
-use crate::sets;
-use crate::soundness;
 use crate::totals;
 use amount::Amount;
 use amount::Checked;
@@ -72,7 +70,7 @@ pub fn act_seen(
     if 15 < place {
         return BookOutcome::Refused(BookError::OffTheBook);
     }
-    if !sets::has16(opened, place) {
+    if !audit::has16(opened, place) {
         return BookOutcome::Refused(BookError::Profile(ProfileError::Unborn));
     }
     if let Outcome::Refused(e) = registry::require_sound_input(input) {
@@ -95,7 +93,7 @@ pub fn act_seen(
 pub fn act_outcome(book: Book, place: u8, operation: u8, input: &[u8]) -> BookOutcome
     ensures { λ r. ⌜ r ≡ answer book (Act place operation (now (input .entry))) ⌝ }
 {
-    let Checked::Some(total) = soundness::sound_total(book) else {
+    let Checked::Some(total) = audit::sound_total(book) else {
         return BookOutcome::Refused(BookError::BadBook);
     };
     let i = (place % 16) as usize;

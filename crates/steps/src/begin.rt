@@ -15,8 +15,6 @@ ghost use Rattle.book.specs.Steps.{Begin, answer, next, effect};
 ghost use Rattle.book.specs.declared.error.BookOutcome.the-variants.{Accepted};
 use crate::alter;
 use crate::reads;
-use crate::sets;
-use crate::soundness;
 use amount::Amount;
 use book::Book;
 use book::Name;
@@ -77,10 +75,10 @@ pub fn begin_seen(
     if from == to {
         return BookOutcome::Refused(BookError::Itself);
     }
-    if sets::has8(pending, transfer) {
+    if audit::has8(pending, transfer) {
         return BookOutcome::Refused(BookError::UnderWay);
     }
-    if !sets::both16(opened, from, to) {
+    if !audit::both16(opened, from, to) {
         return BookOutcome::Refused(BookError::Profile(ProfileError::Unborn));
     }
     if let Outcome::Refused(e) = registry::require_sound_input(input) {
@@ -97,7 +95,7 @@ pub fn begin_seen(
 pub fn begin_outcome(book: Book, from: u8, to: u8, transfer: u8, input: &[u8]) -> BookOutcome
     ensures { λ r. ⌜ r ≡ answer book (Begin from to transfer (now (input .entry))) ⌝ }
 {
-    if !soundness::well_formed(book) {
+    if !audit::well_formed(book) {
         return BookOutcome::Refused(BookError::BadBook);
     }
     let i = (from % 16) as usize;

@@ -8,8 +8,6 @@ ghost use Rattle.book.specs.declared.Book.{Book};
 ghost use Rattle.book.specs.Steps.{Finish, answer, next, effect};
 ghost use Rattle.book.specs.declared.error.BookOutcome.the-variants.{Accepted};
 use crate::alter;
-use crate::sets;
-use crate::soundness;
 use amount::Checked;
 use book::Book;
 use book::Place;
@@ -24,7 +22,7 @@ pub fn finish_seen(pending: u8, t: u8) -> BookOutcome
     if 7 < t {
         return BookOutcome::Refused(BookError::OffTheBook);
     }
-    if !sets::has8(pending, t) {
+    if !audit::has8(pending, t) {
         return BookOutcome::Refused(BookError::Idle);
     }
     BookOutcome::Accepted
@@ -34,7 +32,7 @@ pub fn finish_seen(pending: u8, t: u8) -> BookOutcome
 pub fn finish_outcome(book: Book, t: u8) -> BookOutcome
     ensures { λ r. ⌜ r ≡ answer book (Finish t) ⌝ }
 {
-    if !soundness::well_formed(book) {
+    if !audit::well_formed(book) {
         return BookOutcome::Refused(BookError::BadBook);
     }
     finish_seen(book.pending, t)

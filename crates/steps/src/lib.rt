@@ -10,7 +10,6 @@ mod finish;
 mod open;
 mod reads;
 mod sets;
-mod soundness;
 mod start;
 mod totals;
 
@@ -41,7 +40,5 @@ pub use open::open_outcome;
 pub use open::open_record;
 pub use open::open_seen;
 pub use reads::asked;
-pub use sets::has16;
 pub use start::start_book;
 pub use start::start_outcome;
-pub use totals::book_total;

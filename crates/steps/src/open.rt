@@ -10,8 +10,6 @@ ghost use Rattle.book.specs.Steps.{Open, answer, next, effect};
 ghost use Rattle.book.specs.declared.error.BookOutcome.the-variants.{Accepted};
 use crate::alter;
 use crate::reads;
-use crate::sets;
-use crate::soundness;
 use crate::start;
 use crate::totals;
 use amount::Checked;
@@ -37,7 +35,7 @@ pub fn open_seen(unit: Name, opened: u16, total: Uint128, place: u8, input: &[u8
     if 15 < place {
         return BookOutcome::Refused(BookError::OffTheBook);
     }
-    if sets::has16(opened, place) {
+    if audit::has16(opened, place) {
         return BookOutcome::Refused(BookError::Profile(ProfileError::Born));
     }
     if let Outcome::Refused(e) = registry::require_sound_input(input) {
@@ -62,7 +60,7 @@ pub fn open_seen(unit: Name, opened: u16, total: Uint128, place: u8, input: &[u8
 pub fn open_outcome(book: Book, place: u8, input: &[u8]) -> BookOutcome
     ensures { λ r. ⌜ r ≡ answer book (Open place (now (input .entry))) ⌝ }
 {
-    let Checked::Some(total) = soundness::sound_total(book) else {
+    let Checked::Some(total) = audit::sound_total(book) else {
         return BookOutcome::Refused(BookError::BadBook);
     };
     open_seen(book.unit, book.opened, total, place, input)

@@ -1,5 +1,5 @@
 use Rattle.steps.proofs.Tested.{unsound}
-use Rattle.steps.proofs.Sound.{sound-is, sound-not}
+use Rattle.audit.proofs.Sound.{sound-is, sound-not}
 use Rattle.book.specs.Book.{placeRecord}
 use native.Mathlib.Nat.{mod-eq-of-lt}
 use mathlib.Core.Path.{refl}

@@ -1,5 +1,5 @@
 use Rattle.steps.proofs.Carried.{finish-done, finish-fits}
-use Rattle.steps.proofs.Sums.{fits-so, passes-so}
+use Rattle.audit.proofs.Sums.{fits-so, passes-so}
 use Rattle.amount.proofs.Halves.{val-of}
 use native.Mathlib.Omega.{arith}
 use borrow.Author.Needs.{needs}

@@ -1,5 +1,5 @@
 use Rattle.steps.proofs.Tested.{unsound}
-use Rattle.steps.proofs.Sound.{sound-is, sound-not}
+use Rattle.audit.proofs.Sound.{sound-is, sound-not}
 use mathlib.Core.Path.{refl}
 use borrow.Author.Needs.{needs}
 use Rattle.steps.proofs.open.open_outcome.Statement.{statement}
