@@ -142,7 +142,7 @@ loop-again c =
       v .inv .1,
       v .inv .2,
       g,
-      ran-next _ g _ _ _ _ r t _ _ _ (x .line-at .ensures) (a .before .before .before .before .before .before .before .before .before .body .ensures) o (c .step-answer .ensures) n (c .before .total-after .ensures)
+      ran-next _ g _ _ _ _ r t _ _ _ (x .line-at .ensures) (a .before .before .before .before .before .before .before .before .before .body .ensures) o (c .step-answer .ensures) n (λ k f z. c .before .total-after .ensures k f z)
           (omega (arith, low, v .inv .1))
           (omega (arith, v .inv .1, v .inv .2)),
     )
