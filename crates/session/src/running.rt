@@ -78,8 +78,7 @@ fn do_steps(s: &[u8]) -> Run
         let load = book.transfers[k];
         let i = turn::place_of(l, load) as usize;
         let place = book.places[i];
-        let g = (l.b % 16) as usize;
-        let aim = book.places[g];
+        let aim = book.places[(l.b % 16) as usize];
         let was = Touched {
             place,
             load,
@@ -87,16 +86,13 @@ fn do_steps(s: &[u8]) -> Run
             pending: book.pending,
         };
         let o = turn::outcome(l, body, book.unit, was, aim.subject, total);
-        let Touched {
-            place,
-            load,
-            opened,
-            pending,
-        } = turn::after(o, l, body, was);
+        let done = turn::after(o, l, body, was);
+        let place = done.place;
         book.places[i] = place;
+        let load = done.load;
         book.transfers[k] = load;
-        book.opened = opened;
-        book.pending = pending;
+        book.opened = done.opened;
+        book.pending = done.pending;
         total = turn::total_after(o, total, l, body);
         answers[j] = step_answer(o);
         j += 1;

@@ -77,8 +77,8 @@ mul-place c = search needs
 element-copy-out-place : tie.Need-element-copy-out-place Inv-loop μ-loop
 element-copy-out-place c = place-low _ _ (c .place-of .ensures)
 
-cast-g : tie.Need-cast-g Inv-loop μ-loop
-cast-g c = search needs
+cast-aim : tie.Need-cast-aim Inv-loop μ-loop
+cast-aim c = search needs
 
 mul-aim : tie.Need-mul-aim Inv-loop μ-loop
 mul-aim c = search needs
@@ -96,7 +96,7 @@ mul-place-2 : tie.Need-mul-place-2 Inv-loop μ-loop
 mul-place-2 c = search needs
 
 element-set-from-place : tie.Need-element-set-from-place Inv-loop μ-loop
-element-set-from-place c = place-low _ _ (c .before .before .before .before .before .before .before .before .place-of .ensures)
+element-set-from-place c = place-low _ _ (c .before .before .before .before .before .before .before .place-of .ensures)
 
 mul-load-2 : tie.Need-mul-load-2 Inv-loop μ-loop
 mul-load-2 c = search needs
@@ -142,7 +142,7 @@ loop-again c =
       v .inv .1,
       v .inv .2,
       g,
-      ran-next _ g _ _ _ _ r t _ _ _ (x .line-at .ensures) (a .before .before .before .before .before .before .before .before .before .body .ensures) o (c .step-answer .ensures) n (c .before .total-after .ensures)
+      ran-next _ g _ _ _ _ r t _ _ _ (x .line-at .ensures) (a .before .before .before .before .before .before .before .before .before .body .ensures) o (c .step-answer .ensures) n (λ k f z. c .before .total-after .ensures k f z)
           (omega (arith, low, v .inv .1))
           (omega (arith, v .inv .1, v .inv .2)),
     )
@@ -174,7 +174,7 @@ do-steps-spec =
     cast-i
     mul-place
     element-copy-out-place
-    cast-g
+    cast-aim
     mul-aim
     element-copy-out-aim
     outcome-requires
