@@ -49,7 +49,7 @@ sound-so b = go (partsOk b) ∙ sym (formed-so b)
 
 -- ---- what the total of a sound book says
 
-whole : (b : Book) → wellFormed b ≡ true → soundTotal b ≡ checked (total b)
+pub whole : (b : Book) → wellFormed b ≡ true → soundTotal b ≡ checked (total b)
 unfolding soundTotal
 whole b h = rw (and-r (ltb (total b) limit) (partsOk b) (sym (formed-so b) ∙ h))
 

@@ -4,7 +4,6 @@ ghost use mathlib.Core.Bool.{true, cond};
 ghost use mathlib.Core.Option.{some, none};
 ghost use Prim.Native.Nat.{_+_, _<_, _≤_};
 ghost use lib.ListN.{take};
-ghost use Rattle.amount.specs.Numbers.{limit};
 ghost use Rattle.book.specs.Sets.{has};
 ghost use Rattle.book.specs.Book.{total, wellFormed};
 ghost use Rattle.report.specs.Listing.{stepLine, stepLines, placeLine, placeLines, members, countsText, lastLine, runText};
@@ -103,11 +102,11 @@ fn put_counts(out: &mut [u8], at: usize, opened: u16, pending: u8) -> usize
 
 // The counts and the total.
 fn put_last(out: &mut [u8], at: usize, book: Book) -> usize
-    requires { ⌜ (at ≤ 3860) × (total book < limit) ⌝ }
+    requires { ⌜ (at ≤ 3860) × (wellFormed book ≡ true) ⌝ }
     ensures { λ r. ⌜ (r ≤ at + 63) × Wrote (now (out .entry)) at (lastLine book) (now (out .exit)) r ⌝ }
 {
     // the total fits
-    let Checked::Some(mantissa) = audit::book_total(book) else {
+    let Checked::Some(mantissa) = audit::sound_total(book) else {
         return at;
     };
     let counts = put_counts(out, at, book.opened, book.pending);

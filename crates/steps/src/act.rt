@@ -116,10 +116,7 @@ pub fn acted(mut book: Book, place: u8, operation: u8, input: &[u8]) -> Book
     ensures { λ r. ⌜ (answer book (Act place operation (now (input .entry))) ≡ Accepted
         → r ≡ effect book (Act place operation (now (input .entry)))) ⌝ }
 {
-    if 15 < place {
-        return book;
-    }
-    let i = place as usize;
+    let i = (place % 16) as usize;
     let x = book.places[i];
     book.places[i] = act_record(x, operation, input);
     book

@@ -52,19 +52,12 @@ pub fn finish_book(book: Book, t: u8) -> Book
 pub fn finished(mut book: Book, t: u8) -> Book
     ensures { λ r. ⌜ (answer book (Finish t) ≡ Accepted → r ≡ effect book (Finish t)) ⌝ }
 {
-    if 7 < t {
-        return book;
-    }
-    let i = t as usize;
+    let i = (t % 8) as usize;
     let load = book.transfers[i];
-    let to = load.to;
-    if 15 < to {
-        return book;
-    }
-    let k = to as usize;
+    let k = (load.to % 16) as usize;
     let x = book.places[k];
     book.places[k] = finish_record(x, load);
-    alter::freed(book, t)
+    alter::freed(book, t % 8)
 }
 
 // The destination's record after an accepted finish: x with the load's credits more.

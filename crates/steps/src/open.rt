@@ -81,10 +81,7 @@ pub fn opened_at(book: Book, place: u8, input: &[u8]) -> Book
     ensures { λ r. ⌜ (answer book (Open place (now (input .entry))) ≡ Accepted
         → r ≡ effect book (Open place (now (input .entry)))) ⌝ }
 {
-    if 15 < place {
-        return book;
-    }
-    alter::with_place(book, place, open_record(input))
+    alter::with_place(book, place % 16, open_record(input))
 }
 
 // The place's record after an accepted open: the sheet's subject and balance.

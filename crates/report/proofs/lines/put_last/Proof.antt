@@ -1,17 +1,18 @@
 use borrow.Author.Needs.{needs}
 use Prim.{absurd}
 use mathlib.Core.Path.{sym, ap, _∙_}
-use native.Mathlib.Nat.{not-le-of-lt}
+use mathlib.Core.Bool.{false≢true}
 use Rattle.amount.specs.Canonical.{canonicalText}
 use Rattle.amount.specs.declared.uint128.Uint128.{Uint128}
-use Rattle.amount.proofs.Halves.{checked-is, checked-none}
+use Rattle.amount.proofs.Halves.{checked-is}
+use Rattle.audit.proofs.Sound.{whole, sound-not}
 use Rattle.report.specs.Listing.{lastLine}
 use Rattle.report.proofs.Putting.{_then_, as-text}
 use Rattle.report.proofs.lines.put_last.Statement.{statement}
 use Rattle.report.proofs.lines.put_last.Tie as tie
 
-book-total-requires : tie.Need-book-total-requires
-book-total-requires c κs = search needs
+sound-total-requires : tie.Need-sound-total-requires
+sound-total-requires c κs = search needs
 
 enum-known-mantissa : tie.Need-enum-known-mantissa
 enum-known-mantissa c = search needs
@@ -22,7 +23,7 @@ enum-told c = search needs
 returns : tie.Need-returns
 returns c =
     let sum = c .before .before in
-    absurd (not-le-of-lt (sum .before .before .pre .1) (checked-none _ (sym (c .enum-told .given .1) ∙ sum .book-total .ensures)))
+    absurd (false≢true (sym (sound-not _ _ (sum .sound-total .ensures) (c .enum-told .given .1)) ∙ sum .before .before .pre .1))
 
 put-counts-requires : tie.Need-put-counts-requires
 put-counts-requires c κs = search needs
@@ -53,7 +54,7 @@ returns-2 c =
     let word = total .before .before .before .before in
     let counts = word .before .before .before .before .before in
     let told = counts .before .before .before in
-    let is = checked-is _ _ (sym (told .mantissa .given .1) ∙ told .before .before .book-total .ensures) .1 in (
+    let is = checked-is _ _ (sym (told .mantissa .given .1) ∙ told .before .before .sound-total .ensures ∙ whole _ (told .before .before .before .before .pre .1)) .1 in (
       search needs,
       counts .put-counts .ensures .1
           then word .put .ensures .1
@@ -65,7 +66,7 @@ pub put-last-spec : {M : Type 1} → statement M
 put-last-spec =
     tie.close
     (tie.spec
-    book-total-requires
+    sound-total-requires
     enum-known-mantissa
     enum-told
     returns

@@ -1,5 +1,4 @@
 use borrow.Author.Needs.{needs}
-use Rattle.book.proofs.Formed.{formed}
 use Rattle.report.specs.Listing.{badText}
 use Rattle.report.proofs.Putting.{_then_, as-text}
 use Rattle.report.proofs.Fitting.{bad-text, good-text}
@@ -26,7 +25,7 @@ put-places-requires : tie.Need-put-places-requires
 put-places-requires c κs = let t = c .before .before .before .before .before .before .before in (search needs, t .before .before .before .pre (t .if1 .left) .1)
 
 put-last-requires : tie.Need-put-last-requires
-put-last-requires c κs = let t = c .before .before .before .before .before .before .before .before .before .before .before in (search needs, formed _ (t .before .before .before .pre (t .if1 .left) .1) .fits)
+put-last-requires c κs = let t = c .before .before .before .before .before .before .before .before .before .before .before in (search needs, t .before .before .before .pre (t .if1 .left) .1)
 
 same-length-2 : tie.Need-same-length-2
 same-length-2 c = search needs

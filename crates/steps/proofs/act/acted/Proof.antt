@@ -1,15 +1,15 @@
 use Rattle.steps.proofs.Carried.{act-low}
-use Rattle.book.specs.Book.{placeRecord}
-use native.Mathlib.Omega.{arith}
-use mathlib.Core.Path.{refl}
+use Rattle.book.specs.Book.{placeRecord, setPlaces, noPlace}
+use lib.ListN.{getD, set}
+use native.Mathlib.Nat.{mod-eq-of-lt}
+use Prim.Native.Nat.{ℕ, _%_}
+use mathlib.Core.Path.{_≡_, ap, _∙_}
 use borrow.Author.Needs.{needs}
 use Rattle.steps.proofs.act.acted.Statement.{statement}
 use Rattle.steps.proofs.act.acted.Tie as tie
 
-returns : tie.Need-returns
-returns c h =
-    let x = c .before .before .args in
-    absurd (omega (arith, act-low (x .t1) (x .place) (x .operation) (x .input .now) h, c .if1 .taken))
+cast-i : tie.Need-cast-i
+cast-i c = search needs
 
 mul-x : tie.Need-mul-x
 mul-x c = search needs
@@ -26,18 +26,22 @@ mul-t9 c = search needs
 element-set-from-book : tie.Need-element-set-from-book
 element-set-from-book c = search needs
 
-returns-2 : tie.Need-returns-2
+returns : tie.Need-returns
 unfolding placeRecord
-returns-2 c h = let x = c .before .before .before .before .args in c .act-record .ensures (x .t1) (x .place) h refl
+returns c h =
+    let x = c .before .before .before .args in
+    let e : x .place % 16 ≡ x .place = mod-eq-of-lt (act-low (x .t1) (x .place) (x .operation) (x .input .now) h) in
+    ap (λ (i : ℕ). setPlaces (x .t1) (set (x .t1 .places) i (c .act-record .result))) e
+    ∙ c .act-record .ensures (x .t1) (x .place) h (ap (λ (i : ℕ). getD (x .t1 .places) i noPlace) e)
 
 pub acted-spec : {M : Type 1} → statement M
 acted-spec =
     tie.close
     (tie.spec
-    returns
+    cast-i
     mul-x
     element-copy-out-x
     act-record-requires
     mul-t9
     element-set-from-book
-    returns-2)
+    returns)
