@@ -1,4 +1,4 @@
-"""Document 01's book, sessions and listing in Python, written from the document and from nothing else: what the tests hold the library to.
+"""Document 01's book, sessions and listing in Python, written from the document: what the tests hold the library to.
 
 A step answers (number, detail, available, requested); the last two are whole credits, 0 outside 15.
 """
