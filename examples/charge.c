@@ -1,5 +1,5 @@
 /* Charges readings to a node's balance: check before each reading, apply after it; then hands over what no sender
- * should send, and prints the refusals. tools/c-examples builds it with the header and the library alone. */
+ * should send, and prints the refusals. tools/link-examples builds it with the header and the library alone. */
 #include <credits.h>
 #include <stdio.h>
 #include <string.h>

@@ -78,11 +78,11 @@ const OPERATIONS: [&str; 27] = [
     "meter.expire",
 ];
 
-type Inputs = BTreeMap<String, Value>;
+pub type Inputs = BTreeMap<String, Value>;
 
 // ---- Sheets ----
 
-enum Torn {
+pub enum Torn {
     Layout,
     NotUtf8,
 }
@@ -138,7 +138,7 @@ fn stored(body: &[u8]) -> Amount {
     amount(u128::from_le_bytes(bytes), body[16])
 }
 
-fn state_of(sheet: &[u8]) -> Result<Option<StateProjection>, Torn> {
+pub fn state_of(sheet: &[u8]) -> Result<Option<StateProjection>, Torn> {
     if sheet.is_empty() {
         return Ok(None);
     }
@@ -184,7 +184,7 @@ fn other(which: u8) -> Value {
     }
 }
 
-fn inputs_of(sheet: &[u8], which: u8) -> Result<Inputs, Torn> {
+pub fn inputs_of(sheet: &[u8], which: u8) -> Result<Inputs, Torn> {
     let found = entries(sheet).ok_or(Torn::Layout)?;
     if found.iter().any(|e| e.kind == 3) {
         return Err(Torn::Layout);
@@ -198,7 +198,7 @@ fn inputs_of(sheet: &[u8], which: u8) -> Result<Inputs, Torn> {
 }
 
 // The sheet of a state that the Rust gave.
-fn sheet_of(state: &ResourceState, sheet: &mut Vec<u8>) {
+pub fn sheet_of(state: &ResourceState, sheet: &mut Vec<u8>) {
     let whole = |a: &Amount| {
         let mut body = a.mantissa().to_le_bytes().to_vec();
         body.push(a.scale());

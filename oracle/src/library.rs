@@ -73,77 +73,7 @@ pub use linked::Library;
 mod linked {
     use super::Side;
     use crate::case::{Call, Case, Outcome, Pair};
-
-    #[repr(C)]
-    #[derive(Clone, Copy)]
-    struct Uint128 {
-        hi: u64,
-        lo: u64,
-    }
-    #[repr(C)]
-    #[derive(Clone, Copy)]
-    struct Amount {
-        mantissa: Uint128,
-        scale: u8,
-    }
-    #[repr(C)]
-    #[derive(Clone, Copy)]
-    struct Answer {
-        number: u8,
-        detail: u8,
-        available: Amount,
-        requested: Amount,
-        length: u16,
-    }
-    #[repr(C)]
-    #[derive(Clone, Copy)]
-    struct Given {
-        number: u8,
-        amount: Amount,
-    }
-    #[repr(C)]
-    #[derive(Clone, Copy)]
-    struct Text {
-        bytes: [u8; 257],
-        len: u16,
-    }
-
-    extern "C" {
-        fn credits_amount_read(text: *const u8, n: usize) -> Given;
-        fn credits_amount_compare(a: Amount, b: Amount) -> u8;
-        fn credits_amount_add(a: Amount, b: Amount) -> Given;
-        fn credits_amount_sub(a: Amount, b: Amount) -> Given;
-        fn credits_amount_text(a: Amount) -> Text;
-        fn credits_check(
-            profile: u8,
-            operation: u8,
-            state: *const u8,
-            state_n: usize,
-            input: *const u8,
-            input_n: usize,
-        ) -> Answer;
-        fn credits_apply(
-            profile: u8,
-            operation: u8,
-            state: *const u8,
-            state_n: usize,
-            input: *const u8,
-            input_n: usize,
-            out: *mut u8,
-            out_n: usize,
-        ) -> Answer;
-        fn credits_credit(
-            operation: u8,
-            source: *const u8,
-            source_n: usize,
-            destination: *const u8,
-            destination_n: usize,
-            input: *const u8,
-            input_n: usize,
-            out: *mut u8,
-            out_n: usize,
-        ) -> Answer;
-    }
+    use crate::credits::*;
 
     fn amount((m, scale): Pair) -> Amount {
         Amount { mantissa: Uint128 { hi: (m >> 64) as u64, lo: m as u64 }, scale }

@@ -1,5 +1,10 @@
 //! The oracle's command line; tools/oracle and tools/compare build and call it.
 mod case;
+#[cfg(feature = "library")]
+#[path = "../../include/credits.rs"]
+#[allow(dead_code)]
+mod credits;
+#[path = "../../bench/src/direct.rs"]
 mod direct;
 mod gen;
 mod layer;

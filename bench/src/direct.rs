@@ -1,7 +1,7 @@
 //! Document 01's amounts, sheets, check, apply and credit, written by hand from the document
 //! with native 128-bit numbers: nothing is allocated or copied, every text is a part of a sheet.
 //! It is not made from the Rust original. It serves as the second opinion of `compare --model`
-//! and as the limit in benchmarks. This file stands alone.
+//! and as the limit that tools/bench measures against. This file stands alone.
 use std::cmp::Ordering;
 
 #[derive(Clone, Copy, PartialEq, Eq, Debug)]
@@ -25,6 +25,20 @@ static POWERS: [u128; 39] = powers();
 
 // ---- Amount ----
 
+// At most 19 digits.
+#[inline]
+fn digits(text: &[u8]) -> Option<u64> {
+    let mut n = 0;
+    for &c in text {
+        let d = c.wrapping_sub(b'0');
+        if d > 9 {
+            return None;
+        }
+        n = n * 10 + u64::from(d);
+    }
+    Some(n)
+}
+
 /// Reading: 1 to 39 digits, value at most 2^128-1, scale 0.
 #[inline]
 pub fn read(text: &[u8]) -> Option<Amount> {
@@ -32,24 +46,20 @@ pub fn read(text: &[u8]) -> Option<Amount> {
     if n == 0 || n > 39 {
         return None;
     }
-    let mut low = 0u64;
-    let head = if n < 19 { n } else { 19 };
-    for &c in &text[..head] {
-        let d = c.wrapping_sub(b'0');
-        if d > 9 {
-            return None;
-        }
-        low = low * 10 + u64::from(d);
+    let mantissa = if n <= 19 { u128::from(digits(text)?) } else { read_long(text)? };
+    Some(Amount { mantissa, scale: 0 })
+}
+
+// 20 to 39 digits.
+#[inline(never)]
+fn read_long(text: &[u8]) -> Option<u128> {
+    let (head, rest) = text.split_at(19);
+    let (middle, last) = rest.split_at(rest.len().min(19));
+    let m = u128::from(digits(head)?) * POWERS[middle.len()] + u128::from(digits(middle)?);
+    if last.is_empty() {
+        return Some(m);
     }
-    let mut m = u128::from(low);
-    for &c in &text[head..] {
-        let d = c.wrapping_sub(b'0');
-        if d > 9 {
-            return None;
-        }
-        m = m.checked_mul(10)?.checked_add(u128::from(d))?;
-    }
-    Some(Amount { mantissa: m, scale: 0 })
+    m.checked_mul(10)?.checked_add(u128::from(digits(last)?))
 }
 
 // m times 10^by, where it stays within 128 bits; zero does at every scale.
@@ -115,8 +125,18 @@ pub struct Text {
     pub len: u16,
 }
 
+// The last `count` digits of n, written before the place `at`.
+#[inline]
+fn put_digits(bytes: &mut [u8], at: usize, count: usize, mut n: u64) {
+    for b in bytes[at - count..at].iter_mut().rev() {
+        *b = b'0' + (n % 10) as u8;
+        n /= 10;
+    }
+}
+
 /// Canonical text: no trailing zero after the point, no bare point, `0` before a leading point.
 pub fn text(a: Amount) -> Text {
+    const CHUNK: u128 = 10_000_000_000_000_000_000;
     let mut t = Text { bytes: [0; 257], len: 0 };
     let (mut m, mut scale) = (a.mantissa, a.scale as usize);
     if m == 0 {
@@ -126,35 +146,27 @@ pub fn text(a: Amount) -> Text {
         m /= 10;
         scale -= 1;
     }
-    let mut digits = [0u8; 39];
-    let mut n = 0;
-    loop {
-        digits[n] = b'0' + (m % 10) as u8;
-        n += 1;
-        m /= 10;
-        if m == 0 {
-            break;
-        }
+    // all 39 digits, 19 at a time: few divisions of 128 bits
+    let mut all = [b'0'; 39];
+    put_digits(&mut all, 39, 19, (m % CHUNK) as u64);
+    if m >= CHUNK {
+        let high = m / CHUNK;
+        put_digits(&mut all, 20, 19, (high % CHUNK) as u64);
+        all[0] = b'0' + (high / CHUNK) as u8;
     }
-    let mut at = 0;
-    let mut put = |c: u8| {
-        t.bytes[at] = c;
-        at += 1;
-    };
-    if n > scale {
-        for i in (scale..n).rev() {
-            put(digits[i]);
-        }
-    } else {
-        put(b'0');
-    }
+    let n = 39 - all.iter().position(|&c| c != b'0').unwrap_or(38);
+    let (whole, zeros) = if n > scale { (n - scale, 0) } else { (0, scale - n) };
+    let point = whole.max(1);
+    t.bytes[0] = b'0';
+    t.bytes[..whole].copy_from_slice(&all[39 - n..][..whole]);
+    t.len = point as u16;
     if scale > 0 {
-        put(b'.');
-        for i in (0..scale).rev() {
-            put(if i < n { digits[i] } else { b'0' });
-        }
+        let fraction = &mut t.bytes[point..=point + scale];
+        fraction[0] = b'.';
+        fraction[1..=zeros].fill(b'0');
+        fraction[1 + zeros..].copy_from_slice(&all[39 - (scale - zeros)..]);
+        t.len = (point + 1 + scale) as u16;
     }
-    t.len = at as u16;
     t
 }
 
@@ -170,23 +182,23 @@ pub struct Answer {
 }
 
 #[inline]
-fn plain(number: u8, detail: u8, length: u16) -> Answer {
+pub fn plain(number: u8, detail: u8, length: u16) -> Answer {
     Answer { number, detail, available: ZERO, requested: ZERO, length }
 }
 
 // A refusal on its way out: number and detail (15 is made where the amounts are at hand).
 #[derive(Clone, Copy)]
-struct No(u8, u8);
+pub struct No(pub u8, pub u8);
 
 // ---- Sheets ----
 
-const SUBJECT: u8 = 1;
-const UNIT: u8 = 2;
+pub const SUBJECT: u8 = 1;
+pub const UNIT: u8 = 2;
 const QUANTITY: u8 = 3;
-const BALANCE: u8 = 4;
+pub const BALANCE: u8 = 4;
 const REMAINING: u8 = 5;
 const MAXIMUM: u8 = 6;
-const AMOUNT: u8 = 7;
+pub const AMOUNT: u8 = 7;
 const TO_SUBJECT: u8 = 8;
 const TO_UNIT: u8 = 9;
 const AUTHORIZED_BY: u8 = 10;
@@ -209,7 +221,7 @@ fn stored(body: &[u8]) -> Amount {
 // A sound state sheet, or none. For a stack or a balance `first` is its amount; for a meter
 // `first` is remaining and `second` maximum.
 #[derive(Clone, Copy)]
-struct State<'a> {
+pub struct State<'a> {
     kind: u8, // 0 absent, 1 stack, 2 balance, 3 meter
     subject: &'a [u8],
     unit: &'a [u8],
@@ -249,6 +261,11 @@ impl<'a> State<'a> {
         }
     }
 
+    /// A place of a book, as a balance.
+    pub fn of_balance(subject: &'a [u8], unit: &'a [u8], balance: Amount) -> State<'a> {
+        State { kind: 2, subject, unit, first: balance, second: ZERO }
+    }
+
     #[inline]
     fn born(&self) -> Result<(), No> {
         if self.kind == 0 {
@@ -286,7 +303,7 @@ impl<'a> State<'a> {
 
 // A sound input sheet; fields are found by walking its table.
 #[derive(Clone, Copy)]
-struct Input<'a> {
+pub struct Input<'a> {
     sheet: &'a [u8],
 }
 
@@ -298,7 +315,7 @@ enum Field<'a> {
 
 impl<'a> Input<'a> {
     #[inline]
-    fn decode(s: &'a [u8]) -> Option<Input<'a>> {
+    pub fn decode(s: &'a [u8]) -> Option<Input<'a>> {
         let n = *s.first()? as usize;
         let mut end = 1 + 6 * n;
         if s.len() < end {
@@ -342,7 +359,7 @@ impl<'a> Input<'a> {
     }
 
     #[inline]
-    fn text(&self, name: u8) -> Result<&'a [u8], No> {
+    pub fn text(&self, name: u8) -> Result<&'a [u8], No> {
         match self.find(name) {
             Field::Absent => Err(No(7, name)),
             Field::Other => Err(No(8, name)),
@@ -353,7 +370,7 @@ impl<'a> Input<'a> {
 
     // An absent amount is 7; 11 precedes 10.
     #[inline]
-    fn amount(&self, name: u8) -> Result<Amount, No> {
+    pub fn amount(&self, name: u8) -> Result<Amount, No> {
         match self.find(name) {
             Field::Absent => Err(No(7, name)),
             Field::Other => Err(No(10, name)),
@@ -386,8 +403,8 @@ fn positive(a: Amount) -> Result<(), No> {
 }
 
 // The tests of every operation; what is to be held against a request comes back.
-#[inline]
-fn tests(operation: u8, state: &State, input: &Input) -> Result<Option<(Amount, Amount)>, No> {
+#[inline(always)]
+pub fn tests(operation: u8, state: &State, input: &Input) -> Result<Option<(Amount, Amount)>, No> {
     if matches!(operation, 1 | 11 | 21) {
         if state.kind != 0 {
             return Err(No(5, 0));
