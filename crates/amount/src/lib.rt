@@ -1,7 +1,7 @@
 // Exact decimal amounts: a mantissa of 128 bits and a scale, the port of amount.rs.
 // The value is mantissa / 10^scale. Every scale of a byte is taken; the Rust's constructors stop at 18.
 ghost use mathlib.Core.Path.{_≡_};
-ghost use Prim.Native.Nat.{ℕ, _+_, _*_, _^_, max};
+ghost use Prim.Native.Nat.{ℕ, _+_, _*_, _^_, _≤_, max};
 ghost use lib.Dec.{eqb};
 ghost use Rattle.amount.specs.Numbers.{val, checked, orderOf};
 ghost use Rattle.amount.specs.Amounts.{answerOf, refusedOf, readOf, compareOf, minOf, sumOf, differenceOf, alignedOf, ReducedBy, reverseOf};
@@ -13,6 +13,8 @@ pub use text::Text;
 pub use uint128::Checked;
 pub use uint128::Ordering;
 pub use uint128::Uint128;
+use uint128::divide;
+use uint128::power_of_ten;
 
 // The longest text that is read, in bytes: 2^128 - 1 has 39 digits.
 pub const MAX_MANTISSA_DIGITS: usize = 39;
@@ -99,7 +101,10 @@ impl Amount {
     {
         let left = self.mantissa;
         let right = other.mantissa;
-        if self.scale <= other.scale {
+        if self.scale == other.scale {
+            return left.cmp(right);
+        }
+        if self.scale < other.scale {
             return beside(left, reduce(right, other.scale - self.scale));
         }
         reverse(beside(right, reduce(left, self.scale - other.scale)))
@@ -224,32 +229,32 @@ fn reduce(mantissa: Uint128, places: u8) -> Reduced
         rest: false,
     };
     let mut left = places;
-    while 0 < left {
+    while 9 < left {
         let quotient = r.quotient;
         if quotient.is_zero() {
             return r;
         }
-        r = reduce_once(r);
-        left -= 1;
+        r = reduce_by(r, 9);
+        left -= 9;
     }
-    r
+    reduce_by(r, left)
 }
 
-// One place more.
-fn reduce_once(r: Reduced) -> Reduced
-    ensures { λ s. ⌜ ((n j : ℕ) → ReducedBy n j r → ReducedBy n (j + 1) s) ⌝ }
+// At most nine places more: 10^9 has 32 bits.
+fn reduce_by(r: Reduced, places: u8) -> Reduced
+    requires { ⌜ places ≤ 9 ⌝ }
+    ensures { λ s. ⌜ ((n j : ℕ) → ReducedBy n j r → ReducedBy n (j + places) s) ⌝ }
 {
-    let quotient = r.quotient;
-    let d = quotient.divide_by_ten();
-    let next = d.quotient;
-    if d.digit == 0 {
+    let d = divide(r.quotient, power_of_ten(places));
+    let quotient = d.quotient;
+    if d.rest == 0 {
         return Reduced {
-            quotient: next,
+            quotient,
             rest: r.rest,
         };
     }
     Reduced {
-        quotient: next,
+        quotient,
         rest: true,
     }
 }
