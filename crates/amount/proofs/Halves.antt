@@ -1,10 +1,10 @@
 -- Laws of the definitions of `specs/Value.antt`: which answer a fact on halves leads to.
 use Prim.Native.Nat.{ℕ, _+_, _-_, _*_, _/_, _%_, _^_, _<_, _≤_}
 use mathlib.Core.Path.{_≡_, refl, ap, sym, _∙_}
-use lib.Dec.{ltb, leb, eqb}
+use lib.Dec.{ltb, leb, eqb, lit<}
 use mathlib.Core.Bool.{Bool, true, false, cond}
 use native.Mathlib.Omega.{arith}
-use native.Mathlib.Nat.{le-trans, le-add-right, mul-le-mul-right, mul-right-comm, add-mul, div-add-mod', div-lt-iff-lt-mul, mod-lt}
+use native.Mathlib.Nat.{le-trans, lt-trans, le-add-right, mul-le-mul-right, mul-right-comm, add-mul, div-add-mod', div-lt-iff-lt-mul, mod-lt}
 use lib.Arith.{digits-lt, digits-div, digits-mod, lt-of-le-ne}
 use borrow.Author.Tests.{lt-ltb, le-ltb, le-leb, lt-leb, eq-eqb, ne-eqb, ltb-true, ltb-false, leb-true, leb-false, eqb-true, eqb-false}
 use Rattle.amount.specs.Numbers.{val, limit, halves, orderOf, checked, difference, tenths, divisionOf}
@@ -138,6 +138,15 @@ pub val-pos : (x : Uint128) → (x .hi ≡ 0 → ⊥) → val x ≡ 0 → ⊥
 unfolding val
 val-pos x h e = h (omega arith)
 
+-- a number with an upper half has ten digits or more
+pub val-wide : (x : Uint128) → 0 < x .hi → 10 ^ 9 ≤ val x
+unfolding val
+val-wide x h = omega arith
+
+pub word-fits : (n : ℕ) → n < 2 ^ 64 → n < limit
+unfolding limit
+word-fits n h = lt-trans h (lit< tt)
+
 -- forms that `omega` proves here, and not among a function's facts, where it meets numbers past its bound
 pub no-carry : (k x y : ℕ) → k ≤ 0 → k * 2 ^ 64 + x ≡ y → x ≡ y
 no-carry k x y z e = omega arith
@@ -233,3 +242,6 @@ order-is a b e = rw e (order-fact a b)
 
 pub digit-below : (n : ℕ) (d : Divided) → d ≡ tenths n → d .digit < 10
 digit-below n d e = rw (e, tenths-digit n) (omega arith)
+
+pub division-val : {x : Division} (n d : ℕ) → x ≡ divisionOf n d → val (x .quotient) ≡ n / d
+division-val n d e = rw (e, division-quotient n d) (val-halves (n / d))
