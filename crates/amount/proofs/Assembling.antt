@@ -51,6 +51,10 @@ text-fits m s q f g e =
     omega (arith, width-bounds 38 q))
     (eq-zero-or-pos q)
 
+pub width-few : (q : ℕ) → widthOf q ≤ 39
+unfolding widthOf
+width-few q = width-bounds 38 q .1
+
 text-of : (t b : List ℕ) (len : ℕ) → length t ≡ len → b ≡ t ++ zeros (257 - len) → record { bytes = b; len = len } ≡ textOf t
 unfolding textOf
 text-of t b len e f = rw (f, e)

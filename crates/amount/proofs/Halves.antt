@@ -73,17 +73,43 @@ pub difference-halves : (x y z : Uint128) (k : ℕ) → x .hi + y .hi + k ≡ z 
 unfolding val
 difference-halves x y z k e f = omega arith
 
--- ten times a number and d more, by halves
-pub ten-halves : (x : Uint128) (d k h l : ℕ) → k * 2 ^ 64 + l ≡ x .lo * 10 + d → h ≡ x .hi * 10 + k → h * 2 ^ 64 + l ≡ val x * 10 + d
+-- a word x times f and a more, by halves of the word
+module _ (x f a : ℕ) (g : f < 2 ^ 32) (h : a < 2 ^ 32) where
+  abbrev product-first : ℕ
+  product-first = x % 2 ^ 32 * f + a
+
+  abbrev product-second : ℕ
+  product-second = x / 2 ^ 32 * f + product-first / 2 ^ 32
+
+  pub first-fits : product-first < 2 ^ 64
+  first-fits =
+      let p : x % 2 ^ 32 * f ≤ (2 ^ 32 - 1) * f = mul-le-mul-right f (omega arith) in
+      omega arith
+
+  pub second-fits : x < 2 ^ 64 → product-second < 2 ^ 64
+  second-fits e =
+      let p : x / 2 ^ 32 * f ≤ (2 ^ 32 - 1) * f = mul-le-mul-right f (omega arith) in
+      omega (arith, first-fits)
+
+  pub product-join : product-second / 2 ^ 32 * 2 ^ 64 + (product-second % 2 ^ 32 * 2 ^ 32 + product-first % 2 ^ 32) ≡ x * f + a
+  product-join =
+      let p : (x / 2 ^ 32 * 2 ^ 32 + x % 2 ^ 32) * f ≡ x / 2 ^ 32 * f * 2 ^ 32 + x % 2 ^ 32 * f = add-mul (x / 2 ^ 32 * 2 ^ 32) (x % 2 ^ 32) f ∙ rw (mul-right-comm (x / 2 ^ 32) (2 ^ 32) f) in
+      let q : (x / 2 ^ 32 * 2 ^ 32 + x % 2 ^ 32) * f ≡ x * f = rw (div-add-mod' x (2 ^ 32)) in
+      omega (arith, p, q)
+
+-- a number times f and d more, by halves
+pub times-halves : (x : Uint128) (f d k h l : ℕ) → k * 2 ^ 64 + l ≡ x .lo * f + d → h ≡ x .hi * f + k → h * 2 ^ 64 + l ≡ val x * f + d
 unfolding val
-ten-halves x d k h l e f = omega arith
+times-halves x f d k h l e g =
+    let p : (x .hi * 2 ^ 64 + x .lo) * f ≡ x .hi * f * 2 ^ 64 + x .lo * f = add-mul (x .hi * 2 ^ 64) (x .lo) f ∙ rw (mul-right-comm (x .hi) (2 ^ 64) f) in
+    omega (arith, p)
 
 -- a word x with b before it, divided by halves of the word
 module _ (b x d : ℕ) where
-  abbrev pub upper : ℕ
+  abbrev upper : ℕ
   upper = b * 2 ^ 32 + x / 2 ^ 32
 
-  abbrev pub lower : ℕ
+  abbrev lower : ℕ
   lower = upper % d * 2 ^ 32 + x % 2 ^ 32
 
   module _ (f : b < d) where
@@ -239,9 +265,6 @@ tenths-digit n = refl
 
 pub order-is : {o : Ordering} (a b : ℕ) → o ≡ orderOf a b → OrderFact o a b
 order-is a b e = rw e (order-fact a b)
-
-pub digit-below : (n : ℕ) (d : Divided) → d ≡ tenths n → d .digit < 10
-digit-below n d e = rw (e, tenths-digit n) (omega arith)
 
 pub division-val : {x : Division} (n d : ℕ) → x ≡ divisionOf n d → val (x .quotient) ≡ n / d
 division-val n d e = rw (e, division-quotient n d) (val-halves (n / d))

@@ -14,8 +14,9 @@ use Rattle.amount.specs.declared.Amount.{Amount}
 use Rattle.amount.specs.declared.AmountResult.the-variants.{Ok, Overflow}
 use Rattle.amount.specs.declared.uint128.Ordering.the-variants.{Greater}
 use Rattle.amount.proofs.Scaling.{ten-pos, ten-join}
-use Rattle.amount.proofs.Widths.{below-or-not, width-few}
+use Rattle.amount.proofs.Widths.{below-or-not}
 use Rattle.amount.proofs.Cutting.{cut, cut-digits, cut-places, canonical, whole-number, whole-length, whole-digits, width-some}
+use Rattle.amount.proofs.Assembling.{width-few}
 use Rattle.amount.proofs.Reading.{read-given, if-is}
 use Rattle.amount.proofs.Halves.{val-halves, OrderFact, order-fact, order-is}
 use Rattle.amount.proofs.Stripping.{stripped-lowest}

@@ -39,10 +39,6 @@ width-bounds (suc k) n =
     (λ h. let w = width-bounds k (n / 10) in (omega (arith, width-next k n h), omega (arith, width-next k n h)))
     (below-or-not n 10)
 
-pub width-few : (q : ℕ) → widthOf q ≤ 39
-unfolding widthOf
-width-few q = width-bounds 38 q .1
-
 -- n has as many digits as its width, and no fewer
 lower-next : (k n : ℕ) → 10 ≤ n → 10 ^ (widthUpTo k (n / 10) - 1) ≤ n / 10 → 10 ^ (widthUpTo (suc k) n - 1) ≤ n
 lower-next k n l i =

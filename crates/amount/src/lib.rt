@@ -1,10 +1,11 @@
 // Exact decimal amounts: a mantissa of 128 bits and a scale, the port of amount.rs.
 // The value is mantissa / 10^scale. Every scale of a byte is taken; the Rust's constructors stop at 18.
 ghost use mathlib.Core.Path.{_≡_};
-ghost use Prim.Native.Nat.{ℕ, _+_, _*_, _^_, _≤_, max};
+ghost use Prim.Native.Nat.{ℕ, _+_, _*_, _^_, _≤_, max, min};
 ghost use lib.Dec.{eqb};
+ghost use lib.ListN.{length};
 ghost use Rattle.amount.specs.Numbers.{val, checked, orderOf};
-ghost use Rattle.amount.specs.Amounts.{answerOf, refusedOf, readOf, compareOf, minOf, sumOf, differenceOf, alignedOf, ReducedBy, reverseOf};
+ghost use Rattle.amount.specs.Amounts.{answerOf, refusedOf, readOf, wordOf, compareOf, minOf, sumOf, differenceOf, alignedOf, ReducedBy, reverseOf};
 
 mod text;
 mod uint128;
@@ -15,6 +16,7 @@ pub use uint128::Ordering;
 pub use uint128::Uint128;
 use uint128::divide;
 use uint128::power_of_ten;
+use uint128::times_plus;
 
 // The longest text that is read, in bytes: 2^128 - 1 has 39 digits.
 pub const MAX_MANTISSA_DIGITS: usize = 39;
@@ -66,7 +68,7 @@ impl Amount {
         m.is_zero()
     }
 
-    // Reads a whole number: 1 to 39 digits and nothing else.
+    // Reads a whole number: 1 to 39 digits and nothing else. The first 19 make a word, then nine at a time are added.
     pub fn try_from_str(text: &[u8]) -> AmountResult
         ensures { λ r. ⌜ r ≡ readOf (now (text .entry)) ⌝ }
     {
@@ -76,21 +78,23 @@ impl Amount {
         if MAX_MANTISSA_DIGITS < text.len() {
             return AmountResult::NotWhole;
         }
-        let mut mantissa = Uint128::ZERO;
-        let mut i = 0;
+        let first = smaller(text.len(), WORD_DIGITS);
+        let Word::Number(lo) = word_of(&text[..first]) else {
+            return AmountResult::NotWhole;
+        };
+        let mut mantissa = Uint128 { hi: 0, lo };
+        let mut i = first;
         while i < text.len() {
-            let byte = text[i];
-            if byte < b'0' {
+            let end = smaller(text.len(), i + 9);
+            let Word::Number(word) = word_of(&text[i..end]) else {
                 return AmountResult::NotWhole;
-            }
-            if b'9' < byte {
-                return AmountResult::NotWhole;
-            }
-            let Checked::Some(next) = mantissa.times_ten_plus(byte - b'0') else {
+            };
+            let power = power_of_ten((end - i) as u8);
+            let Checked::Some(next) = times_plus(mantissa, power, word as u32) else {
                 return AmountResult::NotWhole;
             };
             mantissa = next;
-            i += 1;
+            i = end;
         }
         AmountResult::Ok(Amount { mantissa, scale: 0 })
     }
@@ -156,6 +160,35 @@ impl Amount {
     }
 }
 
+// So many digits always make a number of 64 bits.
+const WORD_DIGITS: usize = 19;
+
+// A number, or none where a byte is no digit.
+enum Word {
+    Number(u64),
+    NotDigits,
+}
+
+fn word_of(text: &[u8]) -> Word
+    requires { ⌜ length (now text) ≤ 19 ⌝ }
+    ensures { λ r. ⌜ r ≡ wordOf (now (text .entry)) ⌝ }
+{
+    let mut number: u64 = 0;
+    let mut i = 0;
+    while i < text.len() {
+        let byte = text[i];
+        if byte < b'0' {
+            return Word::NotDigits;
+        }
+        if b'9' < byte {
+            return Word::NotDigits;
+        }
+        number = number * 10 + (byte - b'0') as u64;
+        i += 1;
+    }
+    Word::Number(number)
+}
+
 // A refusal of this number.
 fn refused(number: u8) -> Given
     ensures { λ r. ⌜ r ≡ refusedOf number ⌝ }
@@ -197,6 +230,13 @@ fn larger(a: u8, b: u8) -> u8
     ensures { λ r. ⌜ r ≡ max a b ⌝ }
 {
     if a < b { b } else { a }
+}
+
+// The smaller of two lengths.
+fn smaller(a: usize, b: usize) -> usize
+    ensures { λ r. ⌜ r ≡ min a b ⌝ }
+{
+    if a < b { a } else { b }
 }
 
 // A mantissa at a scale that is `places` larger.

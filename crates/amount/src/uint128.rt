@@ -98,15 +98,7 @@ impl Uint128 {
     pub fn times_ten_plus(self, digit: u8) -> Checked
         ensures { λ r. ⌜ r ≡ checked (val self * 10 + digit) ⌝ }
     {
-        let low = ten_times(self.lo, digit as u32);
-        let high = ten_times(self.hi, low.carry);
-        if 0 < high.carry {
-            return Checked::None;
-        }
-        Checked::Some(Uint128 {
-            hi: high.low,
-            lo: low.low,
-        })
+        times_plus(self, 10, digit as u32)
     }
 
     // The tenth of the number, and its last digit.
@@ -180,18 +172,34 @@ fn joined(a: u64, b: u64, carry: u64, lo: u64) -> Checked
     Checked::Some(Uint128 { hi: hi + carry, lo })
 }
 
+// A number times one of 32 bits, and another more: the lower half, then the upper one with what passes that.
+pub fn times_plus(n: Uint128, factor: u32, add: u32) -> Checked
+    ensures { λ r. ⌜ r ≡ checked (val n * factor + add) ⌝ }
+{
+    let low = times_word(n.lo, factor, add);
+    let high = times_word(n.hi, factor, low.carry);
+    if 0 < high.carry {
+        return Checked::None;
+    }
+    Checked::Some(Uint128 {
+        hi: high.low,
+        lo: low.low,
+    })
+}
+
 // A word, and what passes it.
 struct Wide {
     carry: u32,
     low: u64,
 }
 
-// Ten times a word and a number more, by halves of the word, so that no product leaves 64 bits.
-fn ten_times(x: u64, add: u32) -> Wide
-    ensures { λ r. ⌜ r .carry * 2 ^ 64 + r .low ≡ x * 10 + add ⌝ }
+// A word times a factor, and a number more, by halves of the word, so that no product leaves 64 bits.
+fn times_word(x: u64, factor: u32, add: u32) -> Wide
+    ensures { λ r. ⌜ (r .carry * 2 ^ 64 + r .low ≡ x * factor + add) × (r .low < 2 ^ 64) ⌝ }
 {
-    let first = (x % 0x1_0000_0000) * 10 + add as u64;
-    let second = (x / 0x1_0000_0000) * 10 + first / 0x1_0000_0000;
+    let f = factor as u64;
+    let first = (x % 0x1_0000_0000) * f + add as u64;
+    let second = (x / 0x1_0000_0000) * f + first / 0x1_0000_0000;
     Wide {
         carry: (second / 0x1_0000_0000) as u32,
         low: (second % 0x1_0000_0000) * 0x1_0000_0000 + first % 0x1_0000_0000,

@@ -1,7 +1,6 @@
 use Prim.Native.Nat.{_+_, _≤_}
-use Rattle.amount.proofs.Assembling.{zeros-split, text-fits, before-fraction, whole-only, with-point}
+use Rattle.amount.proofs.Assembling.{zeros-split, text-fits, width-few, before-fraction, whole-only, with-point}
 use Rattle.amount.proofs.Writing.{put-point}
-use Rattle.amount.proofs.Widths.{width-few}
 use Rattle.amount.proofs.Halves.{whole-of}
 use Rattle.amount.specs.Canonical.{zeros}
 use Rattle.amount.specs.Numbers.{val}

@@ -1,4 +1,5 @@
-use Rattle.amount.proofs.Widths.{Counting, counting-none, counting-room, counting-more, width-few}
+use Rattle.amount.proofs.Widths.{Counting, counting-none, counting-room, counting-more}
+use Rattle.amount.proofs.Assembling.{width-few}
 use Rattle.amount.proofs.Halves.{whole-of, val-wide, val-zero, division-val}
 use Rattle.amount.specs.Numbers.{val}
 use Prim.Native.Nat.{_-_, _^_}
