@@ -38,6 +38,6 @@ difference a b = cond (leb b a) (Some (halves (a - b))) None
 unfoldable pub tenths : ℕ → Divided
 tenths n = record { quotient = halves (n / 10); digit = n % 10 }
 
--- For the private helpers: n divided by d, and what is left
+-- for a private helper: n divided by d, and what is left
 unfoldable pub divisionOf : ℕ → ℕ → Division
 divisionOf n d = record { quotient = halves (n / d); rest = n % d }

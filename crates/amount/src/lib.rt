@@ -160,10 +160,10 @@ impl Amount {
     }
 }
 
-// So many digits always make a number of 64 bits.
+// So many digits always make a number below 2^64.
 const WORD_DIGITS: usize = 19;
 
-// A number, or none where a byte is no digit.
+// The number of a text of digits, or that it is no such text.
 enum Word {
     Number(u64),
     NotDigits,
@@ -280,7 +280,7 @@ fn reduce(mantissa: Uint128, places: u8) -> Reduced
     reduce_by(r, left)
 }
 
-// At most nine places more: 10^9 has 32 bits.
+// At most nine places more: 10^9 is below 2^32.
 fn reduce_by(r: Reduced, places: u8) -> Reduced
     requires { ⌜ places ≤ 9 ⌝ }
     ensures { λ s. ⌜ ((n j : ℕ) → ReducedBy n j r → ReducedBy n (j + places) s) ⌝ }

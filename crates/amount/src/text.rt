@@ -67,7 +67,7 @@ fn stripped(a: Amount) -> Amount
     Amount { mantissa, scale }
 }
 
-// How many digits a whole number has.
+// How many digits a whole number has: nine at a time, while it has an upper half.
 fn width(n: Uint128) -> usize
     ensures { λ r. ⌜ r ≡ widthOf (val n) ⌝ }
 {
@@ -81,6 +81,7 @@ fn width(n: Uint128) -> usize
     count + word_width(rest.lo)
 }
 
+// The same of a number of 64 bits.
 fn word_width(n: u64) -> usize
     ensures { λ r. ⌜ r ≡ widthOf n ⌝ }
 {
@@ -117,7 +118,7 @@ fn put_digits(out: &mut [u8], at: usize, count: usize, n: Uint128)
     put_word(out, at - k, count - k, rest.lo);
 }
 
-// The same of a number that has none.
+// The same of a number of 64 bits.
 fn put_word(out: &mut [u8], at: usize, count: usize, n: u64)
     requires { ⌜ (count ≤ at) × (at ≤ length (now out)) ⌝ }
     ensures { λ _. ⌜ ((rest : List ℕ) → now (out .entry) ≡ zeros at ++ rest → now (out .exit) ≡ zeros (at - count) ++ (lastDigits count n ++ rest)) ⌝ }
