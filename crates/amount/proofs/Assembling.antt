@@ -5,7 +5,7 @@ use Prim.{absurd}
 use mathlib.Core.Logic.{⊎-elim}
 use mathlib.Core.List.{List, _∷_, _++_, append-assoc}
 use native.Mathlib.Omega.{arith}
-use native.Mathlib.Nat.{mul-le-mul-right, div-mul-le-self, pow-le-pow-right, eq-zero-or-pos, sub-self, lt-of-le-of-lt, not-le-of-lt, div-one}
+use native.Mathlib.Nat.{mul-le-mul-right, div-mul-le-self, pow-le-pow-right, eq-zero-or-pos, sub-self, lt-of-le-of-lt, not-le-of-lt}
 use lib.Pow.{pow-add}
 use lib.Dec.{lit≤}
 use lib.ListN.{length, replicate, length-append, replicate-append-replicate}
@@ -59,11 +59,9 @@ text-of : (t b : List ℕ) (len : ℕ) → length t ≡ len → b ≡ t ++ zeros
 unfolding textOf
 text-of t b len e f = rw (f, e)
 
-decimal-whole : (m s q w : ℕ) → s ≡ 0 → q ≡ m / 10 ^ s → w ≡ widthOf q → decimalText m s ≡ lastDigits w q
+decimal-whole : (m s w : ℕ) → s ≡ 0 → w ≡ widthOf m → decimalText m s ≡ lastDigits w m
 unfolding decimalText wholeText
-decimal-whole m s q w z f g =
-    let e : q ≡ m = f ∙ rw z (div-one m) in
-    rw (z, g, e)
+decimal-whole m s w z g = rw (z, g)
 
 decimal-point : (m s q w : ℕ) → (s ≡ 0 → ⊥) → q ≡ m / 10 ^ s → w ≡ widthOf q → decimalText m s ≡ lastDigits w q ++ (46 ∷ lastDigits s m)
 unfolding decimalText wholeText
@@ -81,12 +79,13 @@ module _ (a whole : Amount) (e : whole ≡ strip (a .scale) (val (a .mantissa)))
   unfolding canonicalText
   text-is = rw e
 
-  module _ (q w : ℕ) (f : q ≡ val (whole .mantissa) / 10 ^ (whole .scale)) (g : w ≡ widthOf q) where
-    pub whole-only : (b : List ℕ) → whole .scale ≡ 0 → b ≡ zeros (w - w) ++ (lastDigits w q ++ zeros (257 - w)) → record { bytes = b; len = w } ≡ textOf (canonicalText a)
-    whole-only b z h =
-        let t : canonicalText a ≡ lastDigits w q = sym text-is ∙ decimal-whole _ _ q w z f g in
-        rw t (text-of (lastDigits w q) b w (length-digits w q) (h ∙ zeros-none w _))
+  pub whole-only : (b : List ℕ) (w : ℕ) → whole .scale ≡ 0 → w ≡ widthOf (val (whole .mantissa)) → b ≡ zeros (w - w) ++ (lastDigits w (val (whole .mantissa)) ++ zeros (257 - w)) → record { bytes = b; len = w } ≡ textOf (canonicalText a)
+  whole-only b w z g h =
+      let m = val (whole .mantissa) in
+      let t : canonicalText a ≡ lastDigits w m = sym text-is ∙ decimal-whole m _ w z g in
+      rw t (text-of (lastDigits w m) b w (length-digits w m) (h ∙ zeros-none w _))
 
+  module _ (q w : ℕ) (f : q ≡ val (whole .mantissa) / 10 ^ (whole .scale)) (g : w ≡ widthOf q) where
     pub with-point : (b : List ℕ) → (whole .scale ≡ 0 → ⊥) → b ≡ zeros (w - w) ++ (lastDigits w q ++ (46 ∷ (lastDigits (whole .scale) (val (whole .mantissa)) ++ zeros (257 - (w + 1 + whole .scale))))) → record { bytes = b; len = w + 1 + whole .scale } ≡ textOf (canonicalText a)
     with-point b z h =
         let s = whole .scale in

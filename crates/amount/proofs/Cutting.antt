@@ -5,15 +5,14 @@ use mathlib.Core.Logic.{_⊎_, ⊎-elim}
 use mathlib.Core.Bool.{true, false≢true}
 use mathlib.Core.List.{List, [], _∷_, _++_, append-nil}
 use native.Mathlib.Omega.{arith}
-use native.Mathlib.Nat.{div-one, div-add-mod', mod-eq-of-lt, pow-suc, le-div-iff-mul-le, div-lt-iff-lt-mul, div-le-self, lt-of-le-of-lt, lt-trans}
-use lib.Dec.{lit<}
+use native.Mathlib.Nat.{div-one, div-add-mod', mod-eq-of-lt, pow-suc, le-div-iff-mul-le, div-lt-iff-lt-mul, div-le-self, lt-of-le-of-lt}
 use lib.ListN.{length, getD, length-append}
 use Rattle.amount.specs.Numbers.{limit}
 use Rattle.amount.specs.Decimal.{allDigits, decimal}
 use Rattle.amount.specs.Canonical.{lastDigits, widthUpTo, widthOf, wholeText, decimalText}
 use Rattle.amount.specs.Texts.{pointed, beforePoint, behindPoint, digitsIn, placesIn, Canonical}
 use Rattle.amount.proofs.Scaling.{ten-pos}
-use Rattle.amount.proofs.Widths.{below-or-not, width-stop, width-bounds, width-lower, width-upper}
+use Rattle.amount.proofs.Widths.{below-or-not, small, width-stop, width-bounds, width-lower, width-upper}
 use Rattle.amount.proofs.Texts.{digits-are, digits-append, number-parts, number-whole, last-digit, before-point, behind-point, unpointed}
 use Rattle.amount.proofs.Assembling.{length-digits, text-fits}
 
@@ -82,10 +81,6 @@ cut m (suc s) =
     }
 
 -- a number below 2^128 is the one that its digits say
-small : (n : ℕ) → n < limit → n < 10 ^ 39
-unfolding limit
-small n f = lt-trans f (lit< tt)
-
 pub whole-number : (n : ℕ) → n < limit → decimal (wholeText n) ≡ n
 unfolding wholeText widthOf
 whole-number n f = number-whole _ n (width-upper 38 n (small n f))

@@ -1,15 +1,16 @@
 -- Laws of the definitions of `specs/Value.antt`: which answer a fact on halves leads to.
 use Prim.Native.Nat.{ℕ, _+_, _-_, _*_, _/_, _%_, _^_, _<_, _≤_}
 use mathlib.Core.Path.{_≡_, refl, ap, sym, _∙_}
-use lib.Dec.{ltb, leb, eqb}
+use lib.Dec.{ltb, leb, eqb, lit<}
 use mathlib.Core.Bool.{Bool, true, false, cond}
 use native.Mathlib.Omega.{arith}
-use native.Mathlib.Nat.{le-trans, le-add-right, mul-le-mul-right, div-add-mod'}
+use native.Mathlib.Nat.{le-trans, lt-trans, le-add-right, mul-le-mul-right, mul-right-comm, add-mul, div-add-mod', div-lt-iff-lt-mul, mod-lt}
 use lib.Arith.{digits-lt, digits-div, digits-mod, lt-of-le-ne}
 use borrow.Author.Tests.{lt-ltb, le-ltb, le-leb, lt-leb, eq-eqb, ne-eqb, ltb-true, ltb-false, leb-true, leb-false, eqb-true, eqb-false}
-use Rattle.amount.specs.Numbers.{val, limit, halves, orderOf, checked, difference, tenths}
+use Rattle.amount.specs.Numbers.{val, limit, halves, orderOf, checked, difference, tenths, divisionOf}
 use Rattle.amount.specs.declared.uint128.Uint128.{Uint128}
 use Rattle.amount.specs.declared.uint128.Divided.{Divided}
+use Rattle.amount.specs.declared.uint128.Division.{Division}
 use Rattle.amount.specs.declared.uint128.Ordering.{Ordering}
 use Rattle.amount.specs.declared.uint128.Ordering.the-variants.{Less, Equal, Greater}
 use Rattle.amount.specs.declared.uint128.Checked.the-variants.{Some, None}
@@ -72,21 +73,87 @@ pub difference-halves : (x y z : Uint128) (k : ℕ) → x .hi + y .hi + k ≡ z 
 unfolding val
 difference-halves x y z k e f = omega arith
 
--- ten times a number and d more, by halves
-pub ten-halves : (x : Uint128) (d k h l : ℕ) → k * 2 ^ 64 + l ≡ x .lo * 10 + d → h ≡ x .hi * 10 + k → h * 2 ^ 64 + l ≡ val x * 10 + d
-unfolding val
-ten-halves x d k h l e f = omega arith
+-- a word x times f and a more, by halves of the word
+module _ (x f a : ℕ) (g : f < 2 ^ 32) (h : a < 2 ^ 32) where
+  abbrev product-first : ℕ
+  product-first = x % 2 ^ 32 * f + a
 
--- the tenth by halves
-pub tenth-halves : (q x : Uint128) (m d : ℕ) → x .hi ≡ q .hi * 10 + m → m * 2 ^ 64 + x .lo ≡ q .lo * 10 + d → val q * 10 + d ≡ val x
-unfolding val
-tenth-halves q x m d e f = omega arith
+  abbrev product-second : ℕ
+  product-second = x / 2 ^ 32 * f + product-first / 2 ^ 32
 
-pub tenths-of : (q : Uint128) (d n : ℕ) → q .lo < 2 ^ 64 → d < 10 → val q * 10 + d ≡ n → record { quotient = q; digit = d } ≡ tenths n
-unfolding tenths
-tenths-of q d n h b e =
-    let f : d ≡ n % 10 = omega arith in
-    rw (← halves-of q (n / 10) h (omega arith), ← f)
+  pub first-fits : product-first < 2 ^ 64
+  first-fits =
+      let p : x % 2 ^ 32 * f ≤ (2 ^ 32 - 1) * f = mul-le-mul-right f (omega arith) in
+      omega arith
+
+  pub second-fits : x < 2 ^ 64 → product-second < 2 ^ 64
+  second-fits e =
+      let p : x / 2 ^ 32 * f ≤ (2 ^ 32 - 1) * f = mul-le-mul-right f (omega arith) in
+      omega (arith, first-fits)
+
+  pub product-join : product-second / 2 ^ 32 * 2 ^ 64 + (product-second % 2 ^ 32 * 2 ^ 32 + product-first % 2 ^ 32) ≡ x * f + a
+  product-join =
+      let p : (x / 2 ^ 32 * 2 ^ 32 + x % 2 ^ 32) * f ≡ x / 2 ^ 32 * f * 2 ^ 32 + x % 2 ^ 32 * f = add-mul (x / 2 ^ 32 * 2 ^ 32) (x % 2 ^ 32) f ∙ rw (mul-right-comm (x / 2 ^ 32) (2 ^ 32) f) in
+      let q : (x / 2 ^ 32 * 2 ^ 32 + x % 2 ^ 32) * f ≡ x * f = rw (div-add-mod' x (2 ^ 32)) in
+      omega (arith, p, q)
+
+-- a number times f and d more, by halves
+pub times-halves : (x : Uint128) (f d k h l : ℕ) → k * 2 ^ 64 + l ≡ x .lo * f + d → h ≡ x .hi * f + k → h * 2 ^ 64 + l ≡ val x * f + d
+unfolding val
+times-halves x f d k h l e g =
+    let p : (x .hi * 2 ^ 64 + x .lo) * f ≡ x .hi * f * 2 ^ 64 + x .lo * f = add-mul (x .hi * 2 ^ 64) (x .lo) f ∙ rw (mul-right-comm (x .hi) (2 ^ 64) f) in
+    omega (arith, p)
+
+-- a word x with b before it, divided by halves of the word
+module _ (b x d : ℕ) where
+  abbrev upper : ℕ
+  upper = b * 2 ^ 32 + x / 2 ^ 32
+
+  abbrev lower : ℕ
+  lower = upper % d * 2 ^ 32 + x % 2 ^ 32
+
+  module _ (f : b < d) where
+    pub rest-below : upper % d < d
+    rest-below = mod-lt upper (omega arith)
+
+    pub upper-small : x < 2 ^ 64 → upper / d < 2 ^ 32
+    upper-small g = div-lt-iff-lt-mul {k = d} {x = upper} {y = 2 ^ 32} (omega arith) .1 (omega arith)
+
+    pub lower-small : lower / d < 2 ^ 32
+    lower-small = div-lt-iff-lt-mul {k = d} {x = lower} {y = 2 ^ 32} (omega arith) .1 (omega (arith, rest-below))
+
+  pub parts-join : b * 2 ^ 64 + x ≡ (upper / d * 2 ^ 32 + lower / d) * d + lower % d
+  parts-join =
+      let p : (upper / d * 2 ^ 32 + lower / d) * d ≡ upper / d * d * 2 ^ 32 + lower / d * d = add-mul (upper / d * 2 ^ 32) (lower / d) d ∙ rw (mul-right-comm (upper / d) (2 ^ 32) d) in
+      omega (arith, p, div-add-mod' upper d, div-add-mod' lower d)
+
+-- a division by halves
+pub division-halves : (q x : Uint128) (m r d : ℕ) → x .hi ≡ q .hi * d + m → m * 2 ^ 64 + x .lo ≡ q .lo * d + r → val q * d + r ≡ val x
+unfolding val
+division-halves q x m r d e f =
+    let p : (q .hi * 2 ^ 64 + q .lo) * d ≡ q .hi * d * 2 ^ 64 + q .lo * d = add-mul (q .hi * 2 ^ 64) (q .lo) d ∙ rw (mul-right-comm (q .hi) (2 ^ 64) d) in
+    omega (arith, p)
+
+pub division-is : (q : Uint128) (r n d : ℕ) → q .lo < 2 ^ 64 → r < d → val q * d + r ≡ n → record { quotient = q; rest = r } ≡ divisionOf n d
+unfolding divisionOf
+division-is q r n d h b e =
+    rw (← e, digits-div (val q) b, digits-mod (val q) b, ← halves-of q (val q) h refl)
+
+pub division-low : (x : Uint128) (d : ℕ) → x .hi ≡ 0 → x .lo / d < 2 ^ 64 → 0 < d → record { quotient = record { hi = 0; lo = x .lo / d }; rest = x .lo % d } ≡ divisionOf (val x) d
+division-low x d z h p =
+    division-is _ _ _ d h (mod-lt (x .lo) p) (division-halves _ x 0 (x .lo % d) d (omega arith) (omega (arith, div-add-mod' (x .lo) d)))
+
+pub division-ten : (n : ℕ) (d : Division) → d ≡ divisionOf n 10 → record { quotient = d .quotient; digit = d .rest } ≡ tenths n
+unfolding divisionOf tenths
+division-ten n d e = rw e
+
+pub division-quotient : (n d : ℕ) → divisionOf n d .quotient ≡ halves (n / d)
+unfolding divisionOf
+division-quotient n d = refl
+
+pub division-rest : (n d : ℕ) → divisionOf n d .rest ≡ n % d
+unfolding divisionOf
+division-rest n d = refl
 
 -- zero is two halves of zero
 pub val-zero : (x : Uint128) → x .hi ≡ 0 → x .lo ≡ val x
@@ -97,10 +164,16 @@ pub val-pos : (x : Uint128) → (x .hi ≡ 0 → ⊥) → val x ≡ 0 → ⊥
 unfolding val
 val-pos x h e = h (omega arith)
 
--- forms that `omega` proves here, and not among a function's facts, where it meets numbers past its bound
-pub zero-first : (x y : ℕ) → 0 * 2 ^ 64 + x ≡ y → x ≡ y
-zero-first x y e = omega arith
+-- a number with an upper half has ten digits or more
+pub val-wide : (x : Uint128) → 0 < x .hi → 10 ^ 9 ≤ val x
+unfolding val
+val-wide x h = omega arith
 
+pub word-fits : (n : ℕ) → n < 2 ^ 64 → n < limit
+unfolding limit
+word-fits n h = lt-trans h (lit< tt)
+
+-- forms that `omega` proves here, and not among a function's facts, where it meets numbers past its bound
 pub no-carry : (k x y : ℕ) → k ≤ 0 → k * 2 ^ 64 + x ≡ y → x ≡ y
 no-carry k x y z e = omega arith
 
@@ -193,5 +266,5 @@ tenths-digit n = refl
 pub order-is : {o : Ordering} (a b : ℕ) → o ≡ orderOf a b → OrderFact o a b
 order-is a b e = rw e (order-fact a b)
 
-pub digit-below : (n : ℕ) (d : Divided) → d ≡ tenths n → d .digit < 10
-digit-below n d e = rw (e, tenths-digit n) (omega arith)
+pub division-val : {x : Division} (n d : ℕ) → x ≡ divisionOf n d → val (x .quotient) ≡ n / d
+division-val n d e = rw (e, division-quotient n d) (val-halves (n / d))

@@ -4,17 +4,17 @@ use mathlib.Core.Path.{_≡_, ap, sym, _∙_}
 use mathlib.Core.Bool.{Bool, true, false}
 use native.Mathlib.Numerals.{add-one}
 use native.Mathlib.Omega.{arith}
-use native.Mathlib.Nat.{pow-suc, pow-succ', one-le-pow, div-div-eq-div-mul, div-one, mod-one, div-add-mod', mod-lt, mul-le-mul-right, mul-lt-mul-of-pos-right, mul-assoc, add-mul, sub-add-cancel, lt-of-lt-of-le, pow-le-pow-right, div-eq-of-lt, mod-eq-of-lt}
+use native.Mathlib.Nat.{pow-suc, one-le-pow, div-div-eq-div-mul, div-one, mod-one, div-add-mod', mod-lt, mul-le-mul-right, mul-lt-mul-of-pos-right, mul-assoc, mul-comm, add-mul, sub-add-cancel, lt-of-lt-of-le, pow-le-pow-right, div-eq-of-lt, mod-eq-of-lt}
 use borrow.Author.Tests.{ne-eqb, eqb-true, eqb-false, not-true, not-false}
-use lib.Arith.{mod-mul}
+use lib.Arith.{mod-mul, lt-of-le-ne}
 use lib.Pow.{pow-add}
 use lib.Dec.{eqb}
-use Rattle.amount.specs.Numbers.{val, orderOf, tenths}
+use Rattle.amount.specs.Numbers.{val, orderOf, divisionOf}
 use Rattle.amount.specs.declared.uint128.Uint128.{Uint128}
-use Rattle.amount.specs.declared.uint128.Divided.{Divided}
+use Rattle.amount.specs.declared.uint128.Division.{Division}
 use Rattle.amount.specs.declared.uint128.Ordering.{Ordering}
 use Rattle.amount.specs.declared.uint128.Ordering.the-variants.{Less, Equal, Greater}
-use Rattle.amount.proofs.Halves.{order-less, order-equal, order-greater, order-fact, OrderFact, tenths-quotient, tenths-digit, val-halves}
+use Rattle.amount.proofs.Halves.{order-less, order-equal, order-greater, order-fact, OrderFact, division-quotient, division-rest, val-halves}
 use Rattle.amount.specs.Amounts.{ReducedBy, reverseOf, compareOf}
 use Rattle.amount.specs.declared.Reduced.{Reduced}
 use Rattle.amount.specs.declared.Amount.{Amount}
@@ -25,38 +25,41 @@ ten-pos j = one-le-pow j 10 (omega arith)
 pub ten-more : (j : ℕ) → 10 ^ (j + 1) ≡ 10 ^ j * 10
 ten-more j = rw (add-one j) (pow-suc 10 j)
 
-ten-more' : (j : ℕ) → 10 ^ (j + 1) ≡ 10 * 10 ^ j
-ten-more' j = rw (add-one j) (pow-succ' 10 j)
+-- past a number that it is not
+pub above : {n : ℕ} (k : ℕ) → (n ≡ k → ⊥) → k ≤ n → k + 1 ≤ n
+above k z h = rw (add-one k) (lt-of-le-ne h (λ e. z (sym e)))
 
 -- nothing divided yet
 pub reduce-start : (m : Uint128) → ReducedBy (val m) 0 (record { quotient = m; rest = false })
 reduce-start m =
     record { quotient = sym (div-one (val m)); rest = rw (mod-one (val m)) }
 
--- the tail of n below 10^(j+1): the digit there, and the tail below it
-tail : (n j : ℕ) → n % 10 ^ (j + 1) ≡ n / 10 ^ j % 10 * 10 ^ j + n % 10 ^ j
-tail n j = rw (ten-more' j) (mod-mul n {m = 10} {c = 10 ^ j} (omega arith) (ten-pos j))
+-- the tail of n below 10^(j+k): the k digits there, and the tail below them
+tail : (n j k : ℕ) → n % 10 ^ (j + k) ≡ n / 10 ^ j % 10 ^ k * 10 ^ j + n % 10 ^ j
+tail n j k =
+    rw (pow-add 10 j k, mul-comm (10 ^ j) (10 ^ k)) (mod-mul n {m = 10 ^ k} {c = 10 ^ j} (ten-pos k) (ten-pos j))
 
-module _ {n j : ℕ} {r : Reduced} (h : ReducedBy n j r) (d : Divided) (e : d ≡ tenths (val (r .quotient))) where
-  next-quotient : val (d .quotient) ≡ n / 10 ^ (j + 1)
+-- k places more
+module _ {n j : ℕ} {r : Reduced} (h : ReducedBy n j r) (k : ℕ) (d : Division) (e : d ≡ divisionOf (val (r .quotient)) (10 ^ k)) where
+  next-quotient : val (d .quotient) ≡ n / 10 ^ (j + k)
   next-quotient =
-      rw (e, tenths-quotient (val (r .quotient)), val-halves (val (r .quotient) / 10), h .quotient, div-div-eq-div-mul n (10 ^ j) 10, ← ten-more j)
+      rw (e, division-quotient (val (r .quotient)) (10 ^ k), val-halves (val (r .quotient) / 10 ^ k), h .quotient, div-div-eq-div-mul n (10 ^ j) (10 ^ k), ← pow-add 10 j k)
 
-  next-digit : d .digit ≡ n / 10 ^ j % 10
-  next-digit = rw (e, tenths-digit (val (r .quotient)), h .quotient)
+  next-rest : d .rest ≡ n / 10 ^ j % 10 ^ k
+  next-rest = rw (e, division-rest (val (r .quotient)) (10 ^ k), h .quotient)
 
-  pub reduce-exact : d .digit ≡ 0 → ReducedBy n (j + 1) (record { quotient = d .quotient; rest = r .rest })
+  pub reduce-exact : d .rest ≡ 0 → ReducedBy n (j + k) (record { quotient = d .quotient; rest = r .rest })
   reduce-exact z =
-      let f : n / 10 ^ j % 10 ≡ 0 = sym next-digit ∙ z in
-      let g : n % 10 ^ (j + 1) ≡ n % 10 ^ j = tail n j ∙ rw f (omega arith) in
+      let f : n / 10 ^ j % 10 ^ k ≡ 0 = sym next-rest ∙ z in
+      let g : n % 10 ^ (j + k) ≡ n % 10 ^ j = tail n j k ∙ rw f (omega arith) in
       record { quotient = next-quotient; rest = rw g (h .rest) }
 
-  pub reduce-rest : (d .digit ≡ 0 → ⊥) → ReducedBy n (j + 1) (record { quotient = d .quotient; rest = true })
+  pub reduce-rest : (d .rest ≡ 0 → ⊥) → ReducedBy n (j + k) (record { quotient = d .quotient; rest = true })
   reduce-rest z =
-      let p : 1 ≤ n / 10 ^ j % 10 = omega (arith, next-digit) in
-      let q : 1 * 10 ^ j ≤ n / 10 ^ j % 10 * 10 ^ j = mul-le-mul-right (10 ^ j) p in
-      let g : n % 10 ^ (j + 1) ≡ 0 → ⊥ = λ w. omega (arith, tail n j, ten-pos j) in
-      record { quotient = next-quotient; rest = rw (ne-eqb (n % 10 ^ (j + 1)) 0 g) }
+      let p : 1 ≤ n / 10 ^ j % 10 ^ k = omega (arith, next-rest) in
+      let q : 1 * 10 ^ j ≤ n / 10 ^ j % 10 ^ k * 10 ^ j = mul-le-mul-right (10 ^ j) p in
+      let g : n % 10 ^ (j + k) ≡ 0 → ⊥ = λ w. omega (arith, tail n j k, ten-pos j) in
+      record { quotient = next-quotient; rest = rw (ne-eqb (n % 10 ^ (j + k)) 0 g) }
 
 -- how m · 10^d stands to n, by n / 10^d and what is left
 module _ {n d : ℕ} {r : Reduced} (h : ReducedBy n d r) (m : ℕ) where
@@ -108,6 +111,10 @@ pub compare-up : (a b : Amount) → a .scale ≤ b .scale → orderOf (val (a .m
 unfolding compareOf
 compare-up a b h =
     rw (order-scale (val (a .mantissa) * 10 ^ (b .scale - a .scale)) (val (b .mantissa)) (10 ^ a .scale) (ten-pos (a .scale)), ten-join (val (a .mantissa)) (a .scale) (b .scale) h)
+
+pub compare-same : (a b : Amount) → a .scale ≡ b .scale → orderOf (val (a .mantissa)) (val (b .mantissa)) ≡ compareOf a b
+unfolding compareOf
+compare-same a b e = rw e (order-scale _ _ (10 ^ b .scale) (ten-pos (b .scale)))
 
 pub compare-reversed : (a b : Amount) → reverseOf (compareOf a b) ≡ compareOf b a
 unfolding compareOf

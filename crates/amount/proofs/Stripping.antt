@@ -27,6 +27,14 @@ strip-more (suc s) m h z =
     let e : suc s - 1 ≡ s = omega arith in
     rw (eq-eqb (m % 10) 0 z, e)
 
+strip-none : (s : ℕ) → strip s 0 ≡ record { mantissa = record { hi = 0; lo = 0 }; scale = 0 }
+unfolding strip halves
+strip-none zero = refl
+strip-none (suc s) = strip-none s
+
+pub strip-zero : {t : Bool} (s n : ℕ) → t ≡ eqb n 0 → t ≡ true → record { mantissa = record { hi = 0; lo = 0 }; scale = 0 } ≡ strip s n
+strip-zero s n e h = rw (eqb-true n 0 (sym e ∙ h)) (sym (strip-none s))
+
 -- m at the scale s leads to the same amount as `first` does
 pub record Strips (first : Amount) (m : Uint128) (s : ℕ) : Type 0 where
   pub same : first ≡ strip s (val m)

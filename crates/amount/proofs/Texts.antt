@@ -12,7 +12,7 @@ use lib.ListN.{getD}
 use Rattle.amount.specs.Decimal.{isDigit, allDigits, digitsAfter, decimal}
 use Rattle.amount.specs.Canonical.{lastDigits}
 use Rattle.amount.specs.Texts.{pointed, beforePoint, behindPoint}
-use Rattle.amount.proofs.Reading.{digit-byte}
+use Rattle.amount.proofs.Reading.{digit-byte, number-append, and-left, and-right}
 use Rattle.amount.proofs.Scaling.{ten-pos}
 
 -- digits are digits, together and apart
@@ -21,26 +21,12 @@ unfolding lastDigits allDigits
 digits-are zero n = refl
 digits-are (suc k) n = digit-byte (48 + n / 10 ^ k % 10) _ (omega arith) (omega arith) ∙ digits-are k n
 
--- both halves of a test that passed
-and-left : (a b : Bool) → (a && b) ≡ true → a ≡ true
-and-left true b h = refl
-and-left false b h = h
-
-and-right : (a b : Bool) → (a && b) ≡ true → b ≡ true
-and-right true b h = h
-and-right false b h = absurd (false≢true h)
-
 pub digits-append : (s t : List ℕ) → allDigits s ≡ true → allDigits t ≡ true → allDigits (s ++ t) ≡ true
 unfolding allDigits
 digits-append [] t p q = q
 digits-append (b ∷ s) t p q = rw (and-left (isDigit b) (allDigits s) p) (digits-append s t (and-right (isDigit b) (allDigits s) p) q)
 
--- the number of a text in two parts, and that of a number's last digits
-number-append : (n : ℕ) (s t : List ℕ) → digitsAfter n (s ++ t) ≡ digitsAfter (digitsAfter n s) t
-unfolding digitsAfter
-number-append n [] t = refl
-number-append n (b ∷ s) t = number-append (n * 10 + (b - 48)) s t
-
+-- the number of a number's last digits
 mod-next : (m k : ℕ) → m % (10 ^ k * 10) ≡ m / 10 ^ k % 10 * 10 ^ k + m % 10 ^ k
 mod-next m k = rw (mul-comm (10 ^ k) 10) (mod-mul m {m = 10} {c = 10 ^ k} (omega arith) (ten-pos k))
 

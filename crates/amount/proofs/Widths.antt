@@ -1,18 +1,17 @@
 -- Laws of the width of a number: how many digits it has.
 use Prim.Native.Nat.{ℕ, zero, suc, _+_, _-_, _/_, _^_, _<_, _≤_}
-use mathlib.Core.Path.{_≡_, refl, sym, _∙_}
+use Prim.{absurd}
+use mathlib.Core.Path.{_≡_, refl, subst}
 use mathlib.Core.Logic.{_⊎_, inl, inr, ⊎-elim}
 use mathlib.Core.Bool.{Bool, true, false}
 use native.Mathlib.Omega.{arith}
-use native.Mathlib.Nat.{pow-suc}
-use borrow.Author.Tests.{lt-ltb, le-ltb, eqb-true, eqb-false, ltb-true, ltb-false}
-use lib.Dec.{eqb, ltb}
-use Rattle.amount.specs.Numbers.{val, tenths}
+use native.Mathlib.Nat.{pow-suc, pow-le-pow-right, lt-trans, lt-of-lt-of-le, lt-of-le-of-lt, not-le-of-lt, le-div-iff-mul-le, div-lt-iff-lt-mul, div-le-self}
+use lib.Dec.{ltb, lit<}
+use lib.Pow.{pow-add}
+use borrow.Author.Tests.{lt-ltb, le-ltb, ltb-true, ltb-false}
+use Rattle.amount.specs.Numbers.{limit}
 use Rattle.amount.specs.Canonical.{widthUpTo, widthOf}
-use Rattle.amount.specs.declared.uint128.Uint128.{Uint128}
-use Rattle.amount.specs.declared.uint128.Divided.{Divided}
-use Rattle.amount.proofs.Halves.{val-halves, tenths-quotient}
-use Rattle.amount.proofs.Scaling.{ten-more}
+use Rattle.amount.proofs.Scaling.{ten-pos, ten-more}
 
 split : (t : Bool) (a b : ℕ) → ltb a b ≡ t → (a < b) ⊎ (b ≤ a)
 split true a b e = inl (ltb-true a b e)
@@ -26,13 +25,6 @@ pub width-stop : (k n : ℕ) → n < 10 → widthUpTo k n ≡ 1
 unfolding widthUpTo
 width-stop zero n l = refl
 width-stop (suc k) n l = rw (lt-ltb n 10 l)
-
-width-more : (k n : ℕ) → 0 < k → 10 ≤ n → widthUpTo k n ≡ suc (widthUpTo (k - 1) (n / 10))
-unfolding widthUpTo
-width-more zero n h l = omega arith
-width-more (suc k) n h l =
-    let e : suc k - 1 ≡ k = omega arith in
-    rw (le-ltb n 10 l, e)
 
 width-next : (k n : ℕ) → 10 ≤ n → widthUpTo (suc k) n ≡ suc (widthUpTo k (n / 10))
 unfolding widthUpTo
@@ -71,34 +63,54 @@ width-upper (suc k) n h =
     ⊎-elim (λ l. rw (width-stop (suc k) n l) l) (λ l. upper-next k n l (width-upper k (n / 10) i))
     (below-or-not n 10)
 
--- `count` digits of n are passed but for one, at most `left` more come, and `rest` is what is left of n
-pub record Counting (n left count : ℕ) (rest : Uint128) : Type 0 where
-  pub room : count + left ≡ 39
-  pub total : widthOf n + 1 ≡ count + widthUpTo left (val rest)
+-- a number below 2^128 has at most 39 digits
+pub small : (n : ℕ) → n < limit → n < 10 ^ 39
+unfolding limit
+small n f = lt-trans f (lit< tt)
 
-pub counting-none : (n : Uint128) → Counting (val n) 38 1 n
+only-width : (n v w : ℕ) → 10 ^ v ≤ n → n < 10 ^ suc w → v ≤ w
+only-width n v w l u =
+    ⊎-elim (λ h. omega arith)
+    (λ h. absurd (not-le-of-lt (lt-of-lt-of-le u (pow-le-pow-right {n = 10} (omega arith) h)) l))
+    (below-or-not v (suc w))
+
+-- n / 10^j has j digits less
+pub width-shift : (j n : ℕ) → n < limit → 10 ^ j ≤ n → widthOf n ≡ widthOf (n / 10 ^ j) + j
 unfolding widthOf
-counting-none n = record { room = refl; total = omega arith }
+width-shift j n f l =
+    let q : ℕ = n / 10 ^ j in
+    let v : ℕ = widthUpTo 38 n in
+    let w : ℕ = widthUpTo 38 q in
+    let p : 1 ≤ q = le-div-iff-mul-le (ten-pos j) .1 (omega arith) in
+    let g : q < limit = lt-of-le-of-lt (div-le-self n (10 ^ j)) f in
+    let a : 10 ^ (w - 1 + j) ≤ n = rw (pow-add 10 (w - 1) j) (le-div-iff-mul-le (ten-pos j) .0 (width-lower 38 q p)) in
+    let b : n < 10 ^ (w + j) = rw (pow-add 10 w j) (div-lt-iff-lt-mul (ten-pos j) .0 (width-upper 38 q (small q g))) in
+    let c : 10 ^ (v - 1) ≤ n = width-lower 38 n (lt-of-lt-of-le (ten-pos j) l) in
+    let d : n < 10 ^ v = width-upper 38 n (small n f) in
+    let x : w + j ≡ suc (w + j - 1) = omega (arith, width-bounds 38 q) in
+    let y : v ≡ suc (v - 1) = omega (arith, width-bounds 38 n) in
+    omega (arith, only-width n (v - 1) (w + j - 1) c (subst (λ (k : ℕ). n < 10 ^ k) x b), only-width n (w - 1 + j) (v - 1) a (subst (λ (k : ℕ). n < 10 ^ k) y d), width-bounds 38 q, width-bounds 38 n)
 
-module _ {n left count : ℕ} {rest : Uint128} (h : Counting n left count rest) where
-  pub counting-end : left ≤ 0 → count ≡ widthOf n
-  unfolding widthUpTo
-  counting-end l =
-      let e : left ≡ 0 = omega arith in
-      let t : widthOf n + 1 ≡ count + 1 = h .total ∙ rw e in
-      omega arith
+-- `count` digits of n are passed, and `rest` is what is left of n
+pub record Counting (n count rest : ℕ) : Type 0 where
+  pub fits : rest < limit
+  pub total : widthOf n ≡ count + widthOf rest
 
-  module _ (l : 0 < left) (d : Divided) (e : d ≡ tenths (val rest)) where
-    next-is : val (d .quotient) ≡ val rest / 10
-    next-is = rw (e, tenths-quotient (val rest), val-halves (val rest / 10))
+pub counting-none : (n : ℕ) → n < limit → Counting n 0 n
+counting-none n f = record { fits = f; total = omega arith }
 
-    pub counting-stop : {t : Bool} → t ≡ eqb (val (d .quotient)) 0 → t ≡ true → count ≡ widthOf n
-    counting-stop f g =
-        let z = eqb-true (val (d .quotient)) 0 (sym f ∙ g) in
-        omega (arith, h .total, width-stop left (val rest) (omega (arith, z, next-is)))
+module _ {n count rest : ℕ} (h : Counting n count rest) where
+  pub counting-room : count ≤ 38
+  unfolding widthOf
+  counting-room = omega (arith, h .total, width-bounds 38 n, width-bounds 38 rest)
 
-    pub counting-more : {t : Bool} → t ≡ eqb (val (d .quotient)) 0 → t ≡ false → Counting n (left - 1) (count + 1) (d .quotient)
-    counting-more f g =
-        let z = eqb-false (val (d .quotient)) 0 (sym f ∙ g) in
-        let w = width-more left (val rest) l (omega (arith, z, next-is)) in
-        record { room = omega (arith, h .room); total = rw next-is (omega (arith, h .total, w)) }
+  pub counting-more : (j : ℕ) → 10 ^ j ≤ rest → Counting n (count + j) (rest / 10 ^ j)
+  counting-more j l =
+      record {
+        fits = lt-of-le-of-lt (div-le-self rest (10 ^ j)) (h .fits);
+        total = omega (arith, h .total, width-shift j rest (h .fits) l);
+      }
+
+  pub counting-end : rest < 10 → count + 1 ≡ widthOf n
+  unfolding widthOf
+  counting-end l = omega (arith, h .total, width-stop 38 rest l)

@@ -15,6 +15,8 @@ use Rattle.amount.specs.declared.Given.{Given}
 use Rattle.amount.specs.declared.Reduced.{Reduced}
 use Rattle.amount.specs.declared.Aligned.{Aligned}
 use Rattle.amount.specs.declared.Aligned.the-variants.{At, Outside}
+use Rattle.amount.specs.declared.Word.{Word}
+use Rattle.amount.specs.declared.Word.the-variants.{Number, NotDigits}
 use Rattle.amount.specs.declared.AmountResult.{AmountResult}
 use Rattle.amount.specs.declared.AmountResult.the-variants.{Ok, NotWhole, Overflow, Underflow}
 
@@ -70,6 +72,10 @@ answerOf Overflow = refusedOf 17
 answerOf Underflow = refusedOf 18
 
 -- For the private helpers.
+
+-- the number that a text of digits stands for
+unfoldable pub wordOf : List ℕ → Word
+wordOf s = cond (allDigits s) (Number (decimal s)) NotDigits
 
 -- both mantissas at the larger scale, where 128 bits hold them
 unfoldable pub alignedOf : Amount → Amount → Aligned

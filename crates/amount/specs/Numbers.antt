@@ -4,6 +4,7 @@ use mathlib.Core.Bool.{cond}
 use lib.Dec.{ltb, leb, eqb}
 use Rattle.amount.specs.declared.uint128.Uint128.{Uint128}
 use Rattle.amount.specs.declared.uint128.Divided.{Divided}
+use Rattle.amount.specs.declared.uint128.Division.{Division}
 use Rattle.amount.specs.declared.uint128.Ordering.{Ordering}
 use Rattle.amount.specs.declared.uint128.Ordering.the-variants.{Less, Equal, Greater}
 use Rattle.amount.specs.declared.uint128.Checked.{Checked}
@@ -36,3 +37,7 @@ difference a b = cond (leb b a) (Some (halves (a - b))) None
 -- the tenth of n, and its last digit
 unfoldable pub tenths : ℕ → Divided
 tenths n = record { quotient = halves (n / 10); digit = n % 10 }
+
+-- for a private helper: n divided by d, and what is left
+unfoldable pub divisionOf : ℕ → ℕ → Division
+divisionOf n d = record { quotient = halves (n / d); rest = n % d }

@@ -1,10 +1,11 @@
 // Exact decimal amounts: a mantissa of 128 bits and a scale, the port of amount.rs.
 // The value is mantissa / 10^scale. Every scale of a byte is taken; the Rust's constructors stop at 18.
 ghost use mathlib.Core.Path.{_≡_};
-ghost use Prim.Native.Nat.{ℕ, _+_, _*_, _^_, max};
+ghost use Prim.Native.Nat.{ℕ, _+_, _*_, _^_, _≤_, max, min};
 ghost use lib.Dec.{eqb};
+ghost use lib.ListN.{length};
 ghost use Rattle.amount.specs.Numbers.{val, checked, orderOf};
-ghost use Rattle.amount.specs.Amounts.{answerOf, refusedOf, readOf, compareOf, minOf, sumOf, differenceOf, alignedOf, ReducedBy, reverseOf};
+ghost use Rattle.amount.specs.Amounts.{answerOf, refusedOf, readOf, wordOf, compareOf, minOf, sumOf, differenceOf, alignedOf, ReducedBy, reverseOf};
 
 mod text;
 mod uint128;
@@ -13,6 +14,9 @@ pub use text::Text;
 pub use uint128::Checked;
 pub use uint128::Ordering;
 pub use uint128::Uint128;
+use uint128::divide;
+use uint128::power_of_ten;
+use uint128::times_plus;
 
 // The longest text that is read, in bytes: 2^128 - 1 has 39 digits.
 pub const MAX_MANTISSA_DIGITS: usize = 39;
@@ -64,7 +68,7 @@ impl Amount {
         m.is_zero()
     }
 
-    // Reads a whole number: 1 to 39 digits and nothing else.
+    // Reads a whole number: 1 to 39 digits and nothing else. The first 19 make a word, then nine at a time are added.
     pub fn try_from_str(text: &[u8]) -> AmountResult
         ensures { λ r. ⌜ r ≡ readOf (now (text .entry)) ⌝ }
     {
@@ -74,21 +78,23 @@ impl Amount {
         if MAX_MANTISSA_DIGITS < text.len() {
             return AmountResult::NotWhole;
         }
-        let mut mantissa = Uint128::ZERO;
-        let mut i = 0;
+        let first = smaller(text.len(), WORD_DIGITS);
+        let Word::Number(lo) = word_of(&text[..first]) else {
+            return AmountResult::NotWhole;
+        };
+        let mut mantissa = Uint128 { hi: 0, lo };
+        let mut i = first;
         while i < text.len() {
-            let byte = text[i];
-            if byte < b'0' {
+            let end = smaller(text.len(), i + 9);
+            let Word::Number(word) = word_of(&text[i..end]) else {
                 return AmountResult::NotWhole;
-            }
-            if b'9' < byte {
-                return AmountResult::NotWhole;
-            }
-            let Checked::Some(next) = mantissa.times_ten_plus(byte - b'0') else {
+            };
+            let power = power_of_ten((end - i) as u8);
+            let Checked::Some(next) = times_plus(mantissa, power, word as u32) else {
                 return AmountResult::NotWhole;
             };
             mantissa = next;
-            i += 1;
+            i = end;
         }
         AmountResult::Ok(Amount { mantissa, scale: 0 })
     }
@@ -99,7 +105,10 @@ impl Amount {
     {
         let left = self.mantissa;
         let right = other.mantissa;
-        if self.scale <= other.scale {
+        if self.scale == other.scale {
+            return left.cmp(right);
+        }
+        if self.scale < other.scale {
             return beside(left, reduce(right, other.scale - self.scale));
         }
         reverse(beside(right, reduce(left, self.scale - other.scale)))
@@ -151,6 +160,35 @@ impl Amount {
     }
 }
 
+// So many digits always make a number below 2^64.
+const WORD_DIGITS: usize = 19;
+
+// The number of a text of digits, or that it is no such text.
+enum Word {
+    Number(u64),
+    NotDigits,
+}
+
+fn word_of(text: &[u8]) -> Word
+    requires { ⌜ length (now text) ≤ 19 ⌝ }
+    ensures { λ r. ⌜ r ≡ wordOf (now (text .entry)) ⌝ }
+{
+    let mut number: u64 = 0;
+    let mut i = 0;
+    while i < text.len() {
+        let byte = text[i];
+        if byte < b'0' {
+            return Word::NotDigits;
+        }
+        if b'9' < byte {
+            return Word::NotDigits;
+        }
+        number = number * 10 + (byte - b'0') as u64;
+        i += 1;
+    }
+    Word::Number(number)
+}
+
 // A refusal of this number.
 fn refused(number: u8) -> Given
     ensures { λ r. ⌜ r ≡ refusedOf number ⌝ }
@@ -194,6 +232,13 @@ fn larger(a: u8, b: u8) -> u8
     if a < b { b } else { a }
 }
 
+// The smaller of two lengths.
+fn smaller(a: usize, b: usize) -> usize
+    ensures { λ r. ⌜ r ≡ min a b ⌝ }
+{
+    if a < b { a } else { b }
+}
+
 // A mantissa at a scale that is `places` larger.
 fn checked_rescale(mantissa: Uint128, places: u8) -> Checked
     ensures { λ r. ⌜ r ≡ checked (val mantissa * 10 ^ places) ⌝ }
@@ -224,32 +269,32 @@ fn reduce(mantissa: Uint128, places: u8) -> Reduced
         rest: false,
     };
     let mut left = places;
-    while 0 < left {
+    while 9 < left {
         let quotient = r.quotient;
         if quotient.is_zero() {
             return r;
         }
-        r = reduce_once(r);
-        left -= 1;
+        r = reduce_by(r, 9);
+        left -= 9;
     }
-    r
+    reduce_by(r, left)
 }
 
-// One place more.
-fn reduce_once(r: Reduced) -> Reduced
-    ensures { λ s. ⌜ ((n j : ℕ) → ReducedBy n j r → ReducedBy n (j + 1) s) ⌝ }
+// At most nine places more: 10^9 is below 2^32.
+fn reduce_by(r: Reduced, places: u8) -> Reduced
+    requires { ⌜ places ≤ 9 ⌝ }
+    ensures { λ s. ⌜ ((n j : ℕ) → ReducedBy n j r → ReducedBy n (j + places) s) ⌝ }
 {
-    let quotient = r.quotient;
-    let d = quotient.divide_by_ten();
-    let next = d.quotient;
-    if d.digit == 0 {
+    let d = divide(r.quotient, power_of_ten(places));
+    let quotient = d.quotient;
+    if d.rest == 0 {
         return Reduced {
-            quotient: next,
+            quotient,
             rest: r.rest,
         };
     }
     Reduced {
-        quotient: next,
+        quotient,
         rest: true,
     }
 }

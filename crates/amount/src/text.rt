@@ -1,12 +1,14 @@
 // The canonical decimal text of an amount.
 ghost use mathlib.Core.Path.{_≡_};
-ghost use mathlib.Core.List.{List, _∷_, _++_};
-ghost use Prim.Native.Nat.{ℕ, _+_, _-_, _<_, _≤_};
+ghost use mathlib.Core.List.{List, _++_};
+ghost use Prim.Native.Nat.{ℕ, _-_, _≤_};
+ghost use lib.ListN.{length};
 ghost use Rattle.amount.specs.Numbers.{val};
 ghost use Rattle.amount.specs.Canonical.{strip, widthOf, lastDigits, zeros, textOf, canonicalText};
 use super::Amount;
 use super::reduce;
 use super::uint128::Uint128;
+use super::uint128::divide;
 
 // A text: its first `len` bytes. The others are 0.
 #[repr(C)]
@@ -21,22 +23,25 @@ impl Amount {
     {
         let a = stripped(self);
         let mantissa = a.mantissa;
+        let mut bytes = [0u8; 257];
+        if a.scale == 0 {
+            let len = width(mantissa);
+            put_digits(&mut bytes, len, len, mantissa);
+            return Text {
+                bytes,
+                len: len as u16,
+            };
+        }
+        let scale = a.scale as usize;
         let r = reduce(mantissa, a.scale);
         let whole = r.quotient;
         let digits = width(whole);
-        let scale = a.scale as usize;
-        let empty = [0u8; 257];
-        if scale == 0 {
-            return Text {
-                bytes: put_digits(empty, digits, digits, whole),
-                len: digits as u16,
-            };
-        }
         let len = digits + 1 + scale;
-        let fraction = put_digits(empty, len, scale, mantissa);
-        let point = put_point(fraction, digits);
+        put_digits(&mut bytes, len, scale, mantissa);
+        bytes[digits] = b'.';
+        put_digits(&mut bytes, digits, digits, whole);
         Text {
-            bytes: put_digits(point, digits, digits, whole),
+            bytes,
             len: len as u16,
         }
     }
@@ -47,6 +52,9 @@ fn stripped(a: Amount) -> Amount
     ensures { λ r. ⌜ r ≡ strip (a .scale) (val (a .mantissa)) ⌝ }
 {
     let mut mantissa = a.mantissa;
+    if mantissa.is_zero() {
+        return Amount::ZERO;
+    }
     let mut scale = a.scale;
     while 0 < scale {
         let d = mantissa.divide_by_ten();
@@ -59,49 +67,67 @@ fn stripped(a: Amount) -> Amount
     Amount { mantissa, scale }
 }
 
-// How many digits a whole number has.
+// How many digits a whole number has: nine at a time, while it has an upper half.
 fn width(n: Uint128) -> usize
     ensures { λ r. ⌜ r ≡ widthOf (val n) ⌝ }
 {
-    let mut left: usize = 38;
-    let mut count: usize = 1;
     let mut rest = n;
-    while 0 < left {
-        let d = rest.divide_by_ten();
-        let next = d.quotient;
-        if next.is_zero() {
-            return count;
-        }
-        rest = next;
-        count += 1;
-        left -= 1;
+    let mut count: usize = 0;
+    while 0 < rest.hi {
+        let d = divide(rest, 1_000_000_000);
+        rest = d.quotient;
+        count += 9;
     }
-    count
+    count + word_width(rest.lo)
 }
 
-// The last `count` digits of a number, written before the place `at`.
-fn put_digits(bytes: [u8; 257], at: usize, count: usize, n: Uint128) -> [u8; 257]
-    requires { ⌜ (count ≤ at) × (at ≤ 257) ⌝ }
-    ensures { λ r. ⌜ ((rest : List ℕ) → bytes ≡ zeros at ++ rest → r ≡ zeros (at - count) ++ (lastDigits count (val n) ++ rest)) ⌝ }
+// The same of a number of 64 bits.
+fn word_width(n: u64) -> usize
+    ensures { λ r. ⌜ r ≡ widthOf n ⌝ }
 {
-    let mut b = bytes;
-    let mut q = n;
+    let mut rest = n;
+    let mut count: usize = 0;
+    while 1_000_000_000 <= rest {
+        rest /= 1_000_000_000;
+        count += 9;
+    }
+    while 10 <= rest {
+        rest /= 10;
+        count += 1;
+    }
+    count + 1
+}
+
+// The last `count` digits of a number, written before the place `at`: nine at a time, while the number has an upper half.
+fn put_digits(out: &mut [u8], at: usize, count: usize, n: Uint128)
+    requires { ⌜ (count ≤ at) × (at ≤ length (now out)) ⌝ }
+    ensures { λ _. ⌜ ((rest : List ℕ) → now (out .entry) ≡ zeros at ++ rest → now (out .exit) ≡ zeros (at - count) ++ (lastDigits count (val n) ++ rest)) ⌝ }
+{
+    let mut rest = n;
+    let mut k: usize = 0;
+    while 0 < rest.hi {
+        let d = divide(rest, 1_000_000_000);
+        if count - k <= 9 {
+            put_word(out, at - k, count - k, d.rest as u64);
+            return;
+        }
+        put_word(out, at - k, 9, d.rest as u64);
+        rest = d.quotient;
+        k += 9;
+    }
+    put_word(out, at - k, count - k, rest.lo);
+}
+
+// The same of a number of 64 bits.
+fn put_word(out: &mut [u8], at: usize, count: usize, n: u64)
+    requires { ⌜ (count ≤ at) × (at ≤ length (now out)) ⌝ }
+    ensures { λ _. ⌜ ((rest : List ℕ) → now (out .entry) ≡ zeros at ++ rest → now (out .exit) ≡ zeros (at - count) ++ (lastDigits count n ++ rest)) ⌝ }
+{
+    let mut rest = n;
     let mut k: usize = 0;
     while k < count {
-        let d = q.divide_by_ten();
-        b[at - k - 1] = b'0' + d.digit;
-        q = d.quotient;
+        out[at - k - 1] = b'0' + (rest % 10) as u8;
+        rest /= 10;
         k += 1;
     }
-    b
-}
-
-// A point at the place `at`.
-fn put_point(bytes: [u8; 257], at: usize) -> [u8; 257]
-    requires { ⌜ at < 257 ⌝ }
-    ensures { λ r. ⌜ ((rest : List ℕ) → bytes ≡ zeros (at + 1) ++ rest → r ≡ zeros at ++ (46 ∷ rest)) ⌝ }
-{
-    let mut b = bytes;
-    b[at] = b'.';
-    b
 }

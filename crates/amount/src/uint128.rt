@@ -1,8 +1,8 @@
 // Unsigned 128-bit numbers as two 64-bit halves: what `u128` is in the Rust.
 ghost use mathlib.Core.Path.{_≡_};
-ghost use Prim.Native.Nat.{_+_, _*_, _^_, _<_};
+ghost use Prim.Native.Nat.{_+_, _*_, _^_, _<_, _≤_};
 ghost use lib.Dec.{eqb};
-ghost use Rattle.amount.specs.Numbers.{val, orderOf, checked, difference, tenths};
+ghost use Rattle.amount.specs.Numbers.{val, orderOf, checked, difference, tenths, divisionOf};
 
 #[repr(C)]
 pub struct Uint128 {
@@ -27,6 +27,12 @@ pub enum Checked {
 pub struct Divided {
     pub quotient: Uint128,
     pub digit: u8,
+}
+
+// A quotient, and what is left.
+pub struct Division {
+    pub quotient: Uint128,
+    pub rest: u32,
 }
 
 impl Uint128 {
@@ -92,30 +98,63 @@ impl Uint128 {
     pub fn times_ten_plus(self, digit: u8) -> Checked
         ensures { λ r. ⌜ r ≡ checked (val self * 10 + digit) ⌝ }
     {
-        let low = ten_times(self.lo, digit as u32);
-        let high = ten_times(self.hi, low.carry);
-        if 0 < high.carry {
-            return Checked::None;
-        }
-        Checked::Some(Uint128 {
-            hi: high.low,
-            lo: low.low,
-        })
+        times_plus(self, 10, digit as u32)
     }
 
     // The tenth of the number, and its last digit.
     pub fn divide_by_ten(self) -> Divided
         ensures { λ r. ⌜ r ≡ tenths (val self) ⌝ }
     {
-        let high = by_ten(0, self.hi);
-        let low = by_ten(high.rest, self.lo);
+        let d = divide(self, 10);
+        let quotient = d.quotient;
         Divided {
-            quotient: Uint128 {
-                hi: high.quotient,
-                lo: low.quotient,
-            },
-            digit: low.rest as u8,
+            quotient,
+            digit: d.rest as u8,
         }
+    }
+}
+
+// A number divided by one of 32 bits: the upper half, then the lower one with what that leaves.
+pub fn divide(n: Uint128, divisor: u32) -> Division
+    requires { ⌜ 0 < divisor ⌝ }
+    ensures { λ r. ⌜ r ≡ divisionOf (val n) divisor ⌝ }
+{
+    let d = divisor as u64;
+    if n.hi == 0 {
+        return Division {
+            quotient: Uint128 {
+                hi: 0,
+                lo: n.lo / d,
+            },
+            rest: (n.lo % d) as u32,
+        };
+    }
+    let low = divide_word(n.hi % d, n.lo, d);
+    Division {
+        quotient: Uint128 {
+            hi: n.hi / d,
+            lo: low.quotient,
+        },
+        rest: low.rest as u32,
+    }
+}
+
+// 10^places.
+pub fn power_of_ten(places: u8) -> u32
+    requires { ⌜ places ≤ 9 ⌝ }
+    ensures { λ r. ⌜ r ≡ 10 ^ places ⌝ }
+{
+    match places {
+        0 => 1,
+        1 => 10,
+        2 => 100,
+        3 => 1_000,
+        4 => 10_000,
+        5 => 100_000,
+        6 => 1_000_000,
+        7 => 10_000_000,
+        8 => 100_000_000,
+        _ => 1_000_000_000,
     }
 }
 
@@ -133,39 +172,55 @@ fn joined(a: u64, b: u64, carry: u64, lo: u64) -> Checked
     Checked::Some(Uint128 { hi: hi + carry, lo })
 }
 
+// A number times one of 32 bits, and another more: the lower half, then the upper one with what passes that.
+pub fn times_plus(n: Uint128, factor: u32, add: u32) -> Checked
+    ensures { λ r. ⌜ r ≡ checked (val n * factor + add) ⌝ }
+{
+    let low = times_word(n.lo, factor, add);
+    let high = times_word(n.hi, factor, low.carry);
+    if 0 < high.carry {
+        return Checked::None;
+    }
+    Checked::Some(Uint128 {
+        hi: high.low,
+        lo: low.low,
+    })
+}
+
 // A word, and what passes it.
 struct Wide {
     carry: u32,
     low: u64,
 }
 
-// Ten times a word and a number more, by halves of the word, so that no product leaves 64 bits.
-fn ten_times(x: u64, add: u32) -> Wide
-    ensures { λ r. ⌜ r .carry * 2 ^ 64 + r .low ≡ x * 10 + add ⌝ }
+// A word times a factor, and a number more, by halves of the word, so that no product leaves 64 bits.
+fn times_word(x: u64, factor: u32, add: u32) -> Wide
+    ensures { λ r. ⌜ (r .carry * 2 ^ 64 + r .low ≡ x * factor + add) × (r .low < 2 ^ 64) ⌝ }
 {
-    let first = (x % 0x1_0000_0000) * 10 + add as u64;
-    let second = (x / 0x1_0000_0000) * 10 + first / 0x1_0000_0000;
+    let f = factor as u64;
+    let first = (x % 0x1_0000_0000) * f + add as u64;
+    let second = (x / 0x1_0000_0000) * f + first / 0x1_0000_0000;
     Wide {
         carry: (second / 0x1_0000_0000) as u32,
         low: (second % 0x1_0000_0000) * 0x1_0000_0000 + first % 0x1_0000_0000,
     }
 }
 
-// A word divided by ten, and what is left.
-struct Tenth {
+// A word divided, and what is left.
+struct Part {
     quotient: u64,
     rest: u64,
 }
 
-// The tenth of a word with a digit before it, by halves of the word.
-fn by_ten(digit: u64, x: u64) -> Tenth
-    requires { ⌜ digit < 10 ⌝ }
-    ensures { λ r. ⌜ (digit * 2 ^ 64 + x ≡ r .quotient * 10 + r .rest) × (r .rest < 10) × (r .quotient < 2 ^ 64) ⌝ }
+// A word with a number below the divisor before it, divided by halves of the word, so that nothing leaves 64 bits.
+fn divide_word(before: u64, x: u64, divisor: u64) -> Part
+    requires { ⌜ (before < divisor) × (divisor < 2 ^ 32) ⌝ }
+    ensures { λ r. ⌜ (before * 2 ^ 64 + x ≡ r .quotient * divisor + r .rest) × (r .rest < divisor) × (r .quotient < 2 ^ 64) ⌝ }
 {
-    let high = digit * 0x1_0000_0000 + x / 0x1_0000_0000;
-    let low = (high % 10) * 0x1_0000_0000 + x % 0x1_0000_0000;
-    Tenth {
-        quotient: (high / 10) * 0x1_0000_0000 + low / 10,
-        rest: low % 10,
+    let high = before * 0x1_0000_0000 + x / 0x1_0000_0000;
+    let low = (high % divisor) * 0x1_0000_0000 + x % 0x1_0000_0000;
+    Part {
+        quotient: (high / divisor) * 0x1_0000_0000 + low / divisor,
+        rest: low % divisor,
     }
 }

@@ -22,8 +22,8 @@ is-zero-requires c κs = search needs
 returns : tie.Need-returns Inv-loop μ-loop
 returns c = reduce-none _ (omega arith) (c .before .before .before .before .loop .inv .1) (c .before .is-zero .ensures) (c .if1 .taken)
 
-reduce-once-requires : tie.Need-reduce-once-requires Inv-loop μ-loop
-reduce-once-requires c κs = search needs
+reduce-by-requires : tie.Need-reduce-by-requires Inv-loop μ-loop
+reduce-by-requires c κs = search needs
 
 sub-left : tie.Need-sub-left Inv-loop μ-loop
 sub-left c = search needs
@@ -32,10 +32,13 @@ loop-less : tie.Need-loop-less Inv-loop μ-loop
 loop-less c = search needs
 
 loop-again : tie.Need-loop-again Inv-loop μ-loop
-loop-again c = (search needs, places-none (omega arith) (c .reduce-once .ensures _ _ (c .before .before .before .before .before .loop .inv .1)))
+loop-again c = (search needs, places-none (omega arith) (c .reduce-by .ensures _ _ (c .before .before .before .before .before .loop .inv .1)))
+
+reduce-by-requires-2 : tie.Need-reduce-by-requires-2 Inv-loop μ-loop
+reduce-by-requires-2 c κs = search needs
 
 returns-2 : tie.Need-returns-2 Inv-loop μ-loop
-returns-2 c = places-none (omega arith) (c .before .loop .inv .1)
+returns-2 c = places-none (omega arith) (c .reduce-by2 .ensures _ _ (c .before .before .loop .inv .1))
 
 pub reduce-spec : {M : Type 1} → statement M
 reduce-spec =
@@ -46,8 +49,9 @@ reduce-spec =
     loop-holds
     is-zero-requires
     returns
-    reduce-once-requires
+    reduce-by-requires
     sub-left
     loop-less
     loop-again
+    reduce-by-requires-2
     returns-2)

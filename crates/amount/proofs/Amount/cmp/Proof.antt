@@ -1,4 +1,4 @@
-use Rattle.amount.proofs.Scaling.{compare-up, compare-reversed}
+use Rattle.amount.proofs.Scaling.{compare-same, compare-up, compare-reversed}
 use Rattle.amount.specs.Amounts.{reverseOf}
 use native.Mathlib.Omega.{arith}
 use mathlib.Core.Path.{_∙_, ap}
@@ -6,17 +6,23 @@ use borrow.Author.Needs.{needs}
 use Rattle.amount.proofs.Amount.cmp.Statement.{statement}
 use Rattle.amount.proofs.Amount.cmp.Tie as tie
 
+cmp-requires : tie.Need-cmp-requires
+cmp-requires c κs = search needs
+
+returns : tie.Need-returns
+returns c = c .cmp .ensures ∙ compare-same _ _ (c .before .if1 .taken)
+
+sub-reduce : tie.Need-sub-reduce
+sub-reduce c = search needs
+
 reduce-requires : tie.Need-reduce-requires
 reduce-requires c κs = search needs
 
 beside-requires : tie.Need-beside-requires
 beside-requires c κs = search needs
 
-returns : tie.Need-returns
-returns c = c .beside .ensures _ _ (c .before .reduce .ensures) ∙ compare-up _ _ (omega arith)
-
-sub-reduce : tie.Need-sub-reduce
-sub-reduce c = search needs
+returns-2 : tie.Need-returns-2
+returns-2 c = c .beside .ensures _ _ (c .before .reduce .ensures) ∙ compare-up _ _ (omega arith)
 
 reduce-requires-2 : tie.Need-reduce-requires-2
 reduce-requires-2 c κs = search needs
@@ -27,18 +33,20 @@ beside-requires-2 c κs = search needs
 reverse-requires : tie.Need-reverse-requires
 reverse-requires c κs = search needs
 
-returns-2 : tie.Need-returns-2
-returns-2 c = c .reverse .ensures ∙ ap reverseOf (c .before .beside2 .ensures _ _ (c .before .before .reduce2 .ensures) ∙ compare-up _ _ (omega arith)) ∙ compare-reversed _ _
+returns-3 : tie.Need-returns-3
+returns-3 c = c .reverse .ensures ∙ ap reverseOf (c .before .beside2 .ensures _ _ (c .before .before .reduce2 .ensures) ∙ compare-up _ _ (omega arith)) ∙ compare-reversed _ _
 
 pub cmp-spec : {M : Type 1} → statement M
 cmp-spec =
     tie.close
     (tie.spec
-    reduce-requires
-    beside-requires
+    cmp-requires
     returns
     sub-reduce
+    reduce-requires
+    beside-requires
+    returns-2
     reduce-requires-2
     beside-requires-2
     reverse-requires
-    returns-2)
+    returns-3)

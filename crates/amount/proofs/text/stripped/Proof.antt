@@ -1,4 +1,4 @@
-use Rattle.amount.proofs.Stripping.{Strips, strips-end, strips-stop, strips-more}
+use Rattle.amount.proofs.Stripping.{Strips, strip-zero, strips-end, strips-stop, strips-more}
 use Rattle.amount.specs.Canonical.{strip}
 use Rattle.amount.proofs.Halves.{whole-of}
 use Rattle.amount.specs.Numbers.{val}
@@ -14,14 +14,20 @@ Inv-loop mantissa₀ scale₀ mantissa scale = Strips (strip scale₀ (val manti
 abbrev μ-loop : tie.MeasureT-loop
 μ-loop mantissa₀ scale₀ mantissa scale = scale
 
+is-zero-requires : tie.Need-is-zero-requires Inv-loop μ-loop
+is-zero-requires c κs = search needs
+
+returns : tie.Need-returns Inv-loop μ-loop
+returns c = strip-zero _ _ (c .before .is-zero .ensures) (c .if1 .taken)
+
 loop-holds : tie.Need-loop-holds Inv-loop μ-loop
 loop-holds c = record { same = refl; whole = whole-of _ (omega arith) (omega arith) }
 
 divide-by-ten-requires : tie.Need-divide-by-ten-requires Inv-loop μ-loop
 divide-by-ten-requires c κs = search needs
 
-returns : tie.Need-returns Inv-loop μ-loop
-returns c = strips-stop (c .before .before .before .before .loop .inv) (omega arith) _ (c .before .before .divide-by-ten .ensures) (c .if1 .taken)
+returns-2 : tie.Need-returns-2 Inv-loop μ-loop
+returns-2 c = strips-stop (c .before .before .before .before .loop .inv) (omega arith) _ (c .before .before .divide-by-ten .ensures) (c .if2 .taken)
 
 sub-scale : tie.Need-sub-scale Inv-loop μ-loop
 sub-scale c = search needs
@@ -30,10 +36,10 @@ loop-less : tie.Need-loop-less Inv-loop μ-loop
 loop-less c = search needs
 
 loop-again : tie.Need-loop-again Inv-loop μ-loop
-loop-again c = strips-more (c .before .before .before .before .before .loop .inv) (omega arith) _ (c .before .before .before .divide-by-ten .ensures) (c .before .if1 .left)
+loop-again c = strips-more (c .before .before .before .before .before .loop .inv) (omega arith) _ (c .before .before .before .divide-by-ten .ensures) (c .before .if2 .left)
 
-returns-2 : tie.Need-returns-2 Inv-loop μ-loop
-returns-2 c = strips-end (c .before .loop .inv) (omega arith)
+returns-3 : tie.Need-returns-3 Inv-loop μ-loop
+returns-3 c = strips-end (c .before .loop .inv) (omega arith)
 
 pub stripped-spec : {M : Type 1} → statement M
 stripped-spec =
@@ -41,10 +47,12 @@ stripped-spec =
     (tie.spec
     Inv-loop
     μ-loop
+    is-zero-requires
+    returns
     loop-holds
     divide-by-ten-requires
-    returns
+    returns-2
     sub-scale
     loop-less
     loop-again
-    returns-2)
+    returns-3)

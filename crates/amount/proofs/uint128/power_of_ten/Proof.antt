@@ -1,0 +1,53 @@
+use Rattle.amount.proofs.Scaling.{above}
+use native.Mathlib.Nat.{le-antisymm}
+use native.Mathlib.Omega.{arith}
+use borrow.Author.Needs.{needs}
+use Rattle.amount.proofs.uint128.power_of_ten.Statement.{statement}
+use Rattle.amount.proofs.uint128.power_of_ten.Tie as tie
+
+returns : tie.Need-returns
+returns c = rw (c .match .keys1)
+
+returns-2 : tie.Need-returns-2
+returns-2 c = rw (c .match .keys2)
+
+returns-3 : tie.Need-returns-3
+returns-3 c = rw (c .match .keys3)
+
+returns-4 : tie.Need-returns-4
+returns-4 c = rw (c .match .keys4)
+
+returns-5 : tie.Need-returns-5
+returns-5 c = rw (c .match .keys5)
+
+returns-6 : tie.Need-returns-6
+returns-6 c = rw (c .match .keys6)
+
+returns-7 : tie.Need-returns-7
+returns-7 c = rw (c .match .keys7)
+
+returns-8 : tie.Need-returns-8
+returns-8 c = rw (c .match .keys8)
+
+returns-9 : tie.Need-returns-9
+returns-9 c = rw (c .match .keys9)
+
+returns-10 : tie.Need-returns-10
+returns-10 c =
+    let r = c .match .rest in
+    rw (le-antisymm (search needs) (above 8 (r .1) (above 7 (r .0 .1) (above 6 (r .0 .0 .1) (above 5 (r .0 .0 .0 .1) (above 4 (r .0 .0 .0 .0 .1) (above 3 (r .0 .0 .0 .0 .0 .1) (above 2 (r .0 .0 .0 .0 .0 .0 .1) (above 1 (r .0 .0 .0 .0 .0 .0 .0 .1) (above 0 (r .0 .0 .0 .0 .0 .0 .0 .0 .1) (omega arith)))))))))))
+
+pub power-of-ten-spec : {M : Type 1} → statement M
+power-of-ten-spec =
+    tie.close
+    (tie.spec
+    returns
+    returns-2
+    returns-3
+    returns-4
+    returns-5
+    returns-6
+    returns-7
+    returns-8
+    returns-9
+    returns-10)
