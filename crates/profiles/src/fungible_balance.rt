@@ -33,6 +33,7 @@ fn check_mint(state: &[u8], input: &[u8]) -> Outcome
     require_credited(state, input)
 }
 
+// Credit, and release.
 fn check_credit(state: &[u8], input: &[u8]) -> Outcome
     ensures { λ r. ⌜ r ≡ firstOf (now (state .entry)) (now (input .entry)) (born ∷ credited) ⌝ }
 {
@@ -42,6 +43,7 @@ fn check_credit(state: &[u8], input: &[u8]) -> Outcome
     require_credited(state, input)
 }
 
+// Debit, reserve and spend.
 fn check_debit(state: &[u8], input: &[u8]) -> Outcome
     ensures { λ r. ⌜ r ≡ firstOf (now (state .entry)) (now (input .entry)) (born ∷ debited) ⌝ }
 {
@@ -52,24 +54,6 @@ fn check_transfer(state: &[u8], input: &[u8]) -> Outcome
     ensures { λ r. ⌜ r ≡ firstOf (now (state .entry)) (now (input .entry)) (born ∷ in-text to-subject ∷ debited) ⌝ }
 {
     registry::check_taking_with(state, input, TO_SUBJECT, current_balance(state), AMOUNT)
-}
-
-fn check_reserve(state: &[u8], input: &[u8]) -> Outcome
-    ensures { λ r. ⌜ r ≡ firstOf (now (state .entry)) (now (input .entry)) (born ∷ debited) ⌝ }
-{
-    check_debit(state, input)
-}
-
-fn check_release(state: &[u8], input: &[u8]) -> Outcome
-    ensures { λ r. ⌜ r ≡ firstOf (now (state .entry)) (now (input .entry)) (born ∷ credited) ⌝ }
-{
-    check_credit(state, input)
-}
-
-fn check_spend(state: &[u8], input: &[u8]) -> Outcome
-    ensures { λ r. ⌜ r ≡ firstOf (now (state .entry)) (now (input .entry)) (born ∷ debited) ⌝ }
-{
-    check_debit(state, input)
 }
 
 fn check_burn(state: &[u8], input: &[u8]) -> Outcome
@@ -112,12 +96,9 @@ pub fn check(operation: u8, state: &[u8], input: &[u8]) -> Outcome
     match op {
         11 => check_create(state, input),
         12 => check_mint(state, input),
-        13 => check_credit(state, input),
-        14 => check_debit(state, input),
+        13 | 17 => check_credit(state, input),
+        14 | 16 | 18 => check_debit(state, input),
         15 => check_transfer(state, input),
-        16 => check_reserve(state, input),
-        17 => check_release(state, input),
-        18 => check_spend(state, input),
         19 => check_burn(state, input),
         20 => check_convert(state, input),
         _ => Outcome::Refused(ProfileError::UnknownOperation),

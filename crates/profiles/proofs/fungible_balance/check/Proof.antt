@@ -1,3 +1,4 @@
+use mathlib.Core.Logic.{⊎-elim, inl, inr}
 use borrow.Author.Tests.{ne-eqb}
 use Rattle.profiles.specs.Balance.{balanceRules}
 use borrow.Author.Needs.{needs}
@@ -19,15 +20,6 @@ check-debit-requires c κs = search needs
 check-transfer-requires : tie.Need-check-transfer-requires
 check-transfer-requires c κs = search needs
 
-check-reserve-requires : tie.Need-check-reserve-requires
-check-reserve-requires c κs = search needs
-
-check-release-requires : tie.Need-check-release-requires
-check-release-requires c κs = search needs
-
-check-spend-requires : tie.Need-check-spend-requires
-check-spend-requires c κs = search needs
-
 check-burn-requires : tie.Need-check-burn-requires
 check-burn-requires c κs = search needs
 
@@ -44,11 +36,11 @@ returns-2 c = rw (c .before .match .keys2) (c .check-mint .ensures)
 
 returns-3 : tie.Need-returns-3
 unfolding balanceRules
-returns-3 c = rw (c .before .match .keys3) (c .check-credit .ensures)
+returns-3 c = ⊎-elim (λ k. rw k (c .check-credit .ensures)) (λ k. rw k (c .check-credit .ensures)) (c .before .match .keys3)
 
 returns-4 : tie.Need-returns-4
 unfolding balanceRules
-returns-4 c = rw (c .before .match .keys4) (c .check-debit .ensures)
+returns-4 c = let e = c .check-debit .ensures in ⊎-elim (λ k. rw k e) (⊎-elim (λ k. rw k e) (λ k. rw k e)) (c .before .match .keys4)
 
 returns-5 : tie.Need-returns-5
 unfolding balanceRules
@@ -56,28 +48,20 @@ returns-5 c = rw (c .before .match .keys5) (c .check-transfer .ensures)
 
 returns-6 : tie.Need-returns-6
 unfolding balanceRules
-returns-6 c = rw (c .before .match .keys6) (c .check-reserve .ensures)
+returns-6 c = rw (c .before .match .keys6) (c .check-burn .ensures)
 
 returns-7 : tie.Need-returns-7
 unfolding balanceRules
-returns-7 c = rw (c .before .match .keys7) (c .check-release .ensures)
+returns-7 c = rw (c .before .match .keys7) (c .check-convert .ensures)
 
 returns-8 : tie.Need-returns-8
 unfolding balanceRules
-returns-8 c = rw (c .before .match .keys8) (c .check-spend .ensures)
-
-returns-9 : tie.Need-returns-9
-unfolding balanceRules
-returns-9 c = rw (c .before .match .keys9) (c .check-burn .ensures)
-
-returns-10 : tie.Need-returns-10
-unfolding balanceRules
-returns-10 c = rw (c .before .match .keys10) (c .check-convert .ensures)
-
-returns-11 : tie.Need-returns-11
-unfolding balanceRules
-returns-11 c = rw
-    (ne-eqb _ 11 (c .match .rest .0 .0 .0 .0 .0 .0 .0 .0 .0 .1), ne-eqb _ 12 (c .match .rest .0 .0 .0 .0 .0 .0 .0 .0 .1), ne-eqb _ 13 (c .match .rest .0 .0 .0 .0 .0 .0 .0 .1), ne-eqb _ 14 (c .match .rest .0 .0 .0 .0 .0 .0 .1), ne-eqb _ 15 (c .match .rest .0 .0 .0 .0 .0 .1), ne-eqb _ 16 (c .match .rest .0 .0 .0 .0 .1), ne-eqb _ 17 (c .match .rest .0 .0 .0 .1), ne-eqb _ 18 (c .match .rest .0 .0 .1), ne-eqb _ 19 (c .match .rest .0 .1), ne-eqb _ 20 (c .match .rest .1))
+returns-8 c =
+    let r = c .match .rest in
+    let credit = r .0 .0 .0 .0 .1 in
+    let debit = r .0 .0 .0 .1 in
+    rw
+    (ne-eqb _ 11 (r .0 .0 .0 .0 .0 .0 .1), ne-eqb _ 12 (r .0 .0 .0 .0 .0 .1), ne-eqb _ 13 (λ e. credit (inl e)), ne-eqb _ 17 (λ e. credit (inr e)), ne-eqb _ 14 (λ e. debit (inl e)), ne-eqb _ 16 (λ e. debit (inr (inl e))), ne-eqb _ 18 (λ e. debit (inr (inr e))), ne-eqb _ 15 (r .0 .0 .1), ne-eqb _ 19 (r .0 .1), ne-eqb _ 20 (r .1))
 
 pub check-spec : {M : Type 1} → statement M
 check-spec =
@@ -88,9 +72,6 @@ check-spec =
     check-credit-requires
     check-debit-requires
     check-transfer-requires
-    check-reserve-requires
-    check-release-requires
-    check-spend-requires
     check-burn-requires
     check-convert-requires
     returns
@@ -100,7 +81,4 @@ check-spec =
     returns-5
     returns-6
     returns-7
-    returns-8
-    returns-9
-    returns-10
-    returns-11)
+    returns-8)
