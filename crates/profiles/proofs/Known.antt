@@ -16,7 +16,6 @@ use Rattle.profiles.specs.Balance.{balanceRows, balanceRules}
 use Rattle.profiles.specs.Meter.{meterRows, meterRules}
 use Rattle.profiles.specs.Check.{profileOf, operationOf}
 use Rattle.profiles.specs.declared.error.ProfileError.the-variants.{UnknownProfile, UnknownOperation}
-use Rattle.profiles.specs.declared.error.Outcome.{Outcome}
 use Rattle.profiles.specs.declared.error.Outcome.the-variants.{Accepted, Refused}
 
 -- the operations of a row, and of all rows, are of the profile

@@ -1,7 +1,7 @@
 -- A sheet is sound as a state of a form if and only if it is the form's three fields, in their order: what the code tests.
 -- The theorem is `form-is`; `no-stack`, `no-balance` and `no-meter` say by which name a form is known.
 use mathlib.Core.Path.{_≡_, refl, sym, _∙_, subst}
-use mathlib.Core.Bool.{Bool, true, false, _&&_, false≢true}
+use mathlib.Core.Bool.{Bool, true, false, _&&_}
 use mathlib.Core.Logic.{_≢_}
 use mathlib.Core.List.{List}
 use Prim.Native.Nat.{ℕ, _+_, _*_, _<_}

@@ -7,7 +7,7 @@ use Prim.Native.Nat.{ℕ, _+_, _*_, _/_, _%_, _≤_, _<_, _^_}
 use native.Mathlib.Omega.{arith}
 use lib.ListN.{length, take, drop}
 use lib.Seq.{take-append-seam, drop-append-seam, drop-drop}
-use borrow.Author.Tests.{le-leb, eq-eqb, lt-ltb}
+use borrow.Author.Tests.{le-leb, eq-eqb}
 use Rattle.amount.specs.declared.Amount.{Amount}
 use Rattle.sheet.specs.declared.Entry.{Entry}
 use Rattle.sheet.specs.declared.Form.{Form}
@@ -15,14 +15,14 @@ use Rattle.sheet.specs.declared.Shape.{Shape}
 use Rattle.sheet.specs.declared.Shape.the-variants.{Stack, Balance, Meter}
 use Rattle.sheet.specs.declared.State.{State}
 use Rattle.sheet.specs.declared.State.the-variants as State
-use Rattle.sheet.specs.Sheet.{entryAt, entriesFrom, table, partOf, lengthFits, entryFits, soundAs, stateOf, stackForm, balanceForm, meterForm}
+use Rattle.sheet.specs.Sheet.{entryAt, entriesFrom, table, partOf, lengthFits, soundAs, stateOf, stackForm, balanceForm, meterForm}
 use Rattle.sheet.specs.Amounts.{amountAt, amountBytes}
 use Rattle.sheet.specs.Fields.{Field, text, whole, fieldOfKind, field, three}
 use Rattle.sheet.specs.Encode.{encode, formItems, stackSheet, balanceSheet, meterSheet}
 use Rattle.sheet.proofs.Copying.{three-length}
 use Rattle.sheet.proofs.AmountBytes.{amount-back}
 use Rattle.sheet.proofs.Three.{three-fields, OfForm, a-stack, a-balance, a-meter, stack-is, balance-is, meter-is}
-use Rattle.sheet.proofs.Forms.{IsField, Formed, formed-sound}
+use Rattle.sheet.proofs.Forms.{formed-sound}
 
 -- two bytes, low first, read back
 u16-back : (n : ℕ) → n < 65536 → n % 256 + 256 * (n / 256 % 256) ≡ n
