@@ -1,4 +1,5 @@
 -- The laws of the definitions, which the proofs cite, and the theorems that docs/PROOFS.md names.
 pub mod Readers
 pub mod Tests
+pub mod Known
 pub mod Edges

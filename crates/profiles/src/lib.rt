@@ -9,17 +9,22 @@ pub mod meter;
 pub mod registry;
 
 use error::Outcome;
+use error::ProfileError;
 
-// Whether an operation of a profile may be done on a state with an input: 1, 2, 3, 4, then the operation's list.
+// Whether an operation of a profile may be done on a state with an input: 1, 2, 3, then the profile's lists, which give 4.
 pub fn check(profile: u8, operation: u8, state: &[u8], input: &[u8]) -> Outcome
     ensures { λ r. ⌜ r ≡ checkOf profile operation (now (state .entry)) (now (input .entry)) ⌝ }
 {
-    if let Outcome::Refused(e) = registry::require_call(profile, operation, state, input) {
+    if let Outcome::Refused(e) = registry::require_sound_state(state, 1) {
+        return Outcome::Refused(e);
+    }
+    if let Outcome::Refused(e) = registry::require_sound_input(input) {
         return Outcome::Refused(e);
     }
     match profile {
         1 => consumable_stack::check(operation, state, input),
         2 => fungible_balance::check(operation, state, input),
-        _ => meter::check(operation, state, input),
+        3 => meter::check(operation, state, input),
+        _ => Outcome::Refused(ProfileError::UnknownProfile),
     }
 }

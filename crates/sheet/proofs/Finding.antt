@@ -2,12 +2,13 @@
 use mathlib.Core.Path.{_≡_, refl, sym, ap, _∙_}
 use mathlib.Core.Bool.{Bool, true, false, cond, false≢true}
 use mathlib.Core.List.{List}
-use mathlib.Core.Logic.{⊎-elim}
-use Prim.Native.Nat.{ℕ, zero, suc, _+_, _-_, _≤_, _<_}
+use mathlib.Core.Logic.{⊎-elim, _≢_}
+use Prim.Native.Nat.{ℕ, zero, suc, _+_, _*_, _-_, _≤_, _<_}
 use native.Mathlib.Nat.{eq-or-lt-of-le}
 use native.Mathlib.Omega.{arith}
+use lib.ListN.{getD}
 use lib.Dec.{eqb}
-use borrow.Author.Tests.{eqb-true, eq-eqb}
+use borrow.Author.Tests.{eqb-true, eq-eqb, ne-eqb}
 use Rattle.sheet.specs.declared.Entry.{Entry}
 use Rattle.sheet.specs.declared.Found.the-variants.{At, Nothing}
 use Rattle.sheet.specs.Sheet.{entryAt, entriesFrom, lookup, count, table}
@@ -19,12 +20,22 @@ lookup-end s name k n h =
     let e : n - k ≡ 0 = omega arith in
     rw e
 
-pub lookup-step : (s : List ℕ) (name k n : ℕ) → k < n
+lookup-step : (s : List ℕ) (name k n : ℕ) → k < n
     → lookup name (entriesFrom s k (n - k)) ≡ cond (eqb (entryAt s k .name) name) (At (entryAt s k)) (lookup name (entriesFrom s (k + 1) (n - (k + 1))))
 unfolding lookup entriesFrom
 lookup-step s name k n lt =
     let e : n - k ≡ suc (n - (k + 1)) = omega arith in
     rw e
+
+-- by the entry's name alone
+module _ (s : List ℕ) (name k n : ℕ) (lt : k < n) where
+  pub lookup-here : getD s (1 + 6 * k) 0 ≡ name → lookup name (entriesFrom s k (n - k)) ≡ At (entryAt s k)
+  unfolding entryAt
+  lookup-here h = lookup-step s name k n lt ∙ rw (eq-eqb (getD s (1 + 6 * k) 0) name h)
+
+  pub lookup-next : getD s (1 + 6 * k) 0 ≢ name → lookup name (entriesFrom s k (n - k)) ≡ lookup name (entriesFrom s (k + 1) (n - (k + 1)))
+  unfolding entryAt
+  lookup-next h = lookup-step s name k n lt ∙ rw (ne-eqb (getD s (1 + 6 * k) 0) name h)
 
 -- an entry of the first n that has the name
 pub record Stands (s : List ℕ) (name n : ℕ) (e : Entry) : Type 0 where

@@ -5,6 +5,7 @@ pub mod Finding
 pub mod Copying
 pub mod Holding
 pub mod Three
+pub mod Forms
 pub mod AmountBytes
 pub mod RoundTrip
 pub mod Visiting

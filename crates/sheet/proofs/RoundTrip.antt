@@ -7,7 +7,7 @@ use Prim.Native.Nat.{ℕ, _+_, _*_, _/_, _%_, _≤_, _<_, _^_}
 use native.Mathlib.Omega.{arith}
 use lib.ListN.{length, take, drop}
 use lib.Seq.{take-append-seam, drop-append-seam, drop-drop}
-use borrow.Author.Tests.{le-leb, eq-eqb, lt-ltb}
+use borrow.Author.Tests.{le-leb, eq-eqb}
 use Rattle.amount.specs.declared.Amount.{Amount}
 use Rattle.sheet.specs.declared.Entry.{Entry}
 use Rattle.sheet.specs.declared.Form.{Form}
@@ -15,14 +15,14 @@ use Rattle.sheet.specs.declared.Shape.{Shape}
 use Rattle.sheet.specs.declared.Shape.the-variants.{Stack, Balance, Meter}
 use Rattle.sheet.specs.declared.State.{State}
 use Rattle.sheet.specs.declared.State.the-variants as State
-use Rattle.sheet.specs.Sheet.{entryAt, entriesFrom, table, partOf, lengthFits, entryFits, soundAs, stateOf, stackForm, balanceForm, meterForm}
+use Rattle.sheet.specs.Sheet.{entryAt, entriesFrom, table, partOf, lengthFits, soundAs, stateOf, stackForm, balanceForm, meterForm}
 use Rattle.sheet.specs.Amounts.{amountAt, amountBytes}
 use Rattle.sheet.specs.Fields.{Field, text, whole, fieldOfKind, field, three}
 use Rattle.sheet.specs.Encode.{encode, formItems, stackSheet, balanceSheet, meterSheet}
-use Rattle.sheet.proofs.Walking.{Walked, walk-start, walk-turn, walk-end}
 use Rattle.sheet.proofs.Copying.{three-length}
 use Rattle.sheet.proofs.AmountBytes.{amount-back}
-use Rattle.sheet.proofs.Three.{three-fields, OfForm, second-kind, third-kind, a-stack, a-balance, a-meter, stack-is, balance-is, meter-is}
+use Rattle.sheet.proofs.Three.{three-fields, OfForm, a-stack, a-balance, a-meter, stack-is, balance-is, meter-is}
+use Rattle.sheet.proofs.Forms.{formed-sound}
 
 -- two bytes, low first, read back
 u16-back : (n : ℕ) → n < 65536 → n % 256 + 256 * (n / 256 % 256) ≡ n
@@ -87,16 +87,13 @@ module _ (f : Form) (x y z : List ℕ) (low : 19 + length x + length y < 65536) 
   pub sound-back : (shape : Shape) → OfForm shape f → length x ≤ 256 → lengthFits (f .kind) (length y) ≡ true → length z ≡ 17 → soundAs shape sheet ≡ true
   unfolding encode
   sound-back shape o lx ly l17 =
-      let h₁ : entryFits shape first 0 19 ≡ true = rw (o .rule 1 1, le-leb (length x) 256 lx) in
-      let h₂ : entryFits shape second 1 (19 + length x) ≡ true =
-      rw (lt-ltb 1 (f .second) (o .first-rise), o .rule (f .second) (f .kind), second-kind shape f o, eq-eqb (f .kind) (f .kind) refl, ly, eq-eqb (19 + length x) (19 + length x) refl) in
-      let h₃ : entryFits shape third (f .second) (19 + length x + length y) ≡ true =
-      rw (lt-ltb (f .second) (f .third) (o .second-rise), o .rule (f .third) 3, third-kind shape f o, l17, eq-eqb (19 + length x + length y) (19 + length x + length y) refl) in
-      let w₀ : Walked shape sheet 19 0 0 = walk-start shape sheet in
-      let w₁ : Walked shape sheet (19 + length x) 1 1 = walk-turn shape sheet first 19 0 0 w₀ (sym first-back) h₁ in
-      let w₂ : Walked shape sheet (19 + length x + length y) (f .second) 2 = walk-turn shape sheet second _ 1 1 w₁ (sym second-back) h₂ in
-      let w₃ : Walked shape sheet (19 + length x + length y + length z) (f .third) 3 = walk-turn shape sheet third _ _ 2 w₂ (sym third-back) h₃ in
-      walk-end shape sheet (o .counts 3) _ _ 3 w₃ refl ∙ eq-eqb _ (length sheet) (sym (three-length f x y z))
+      formed-sound shape f o sheet record {
+        counted = refl;
+        first = rw first-back record { named = refl; kinded = refl; long = le-leb (length x) 256 lx; place = refl };
+        second = rw (second-back, first-back) record { named = refl; kinded = refl; long = ly; place = refl };
+        third = rw (third-back, second-back, first-back) record { named = refl; kinded = refl; long = eq-eqb (length z) 17 l17; place = refl };
+        ends = rw (third-back, second-back, first-back) (sym (three-length f x y z));
+      }
 
 -- an amount whose halves have 64 bits, as each that code holds
 pub record Sized (a : Amount) : Type 0 where

@@ -140,10 +140,10 @@ module _ (shape : Shape) (f : Form) (o : OfForm shape f) (s : List ℕ) (sound :
   w : Whole shape s
   w = whole-so shape s sound
 
-  is-three : count s ≡ 3
+  pub is-three : count s ≡ 3
   is-three = eqb-true (count s) 3 (sym (o .counts (count s)) ∙ w .counted)
 
-  fit : (k : ℕ) → k < 3 → Fits shape (entryAt s k) (nameBefore s k) (bodyAt s k)
+  pub fit : (k : ℕ) → k < 3 → Fits shape (entryAt s k) (nameBefore s k) (bodyAt s k)
   fit k h = w .each k (omega (arith, is-three))
 
   one : (k : ℕ) → k < 3 → OneOf (entryAt s k .name) (f .second) (f .third)
@@ -160,7 +160,7 @@ module _ (shape : Shape) (f : Form) (o : OfForm shape f) (s : List ℕ) (sound :
   unfolding entriesFrom
   entries = rw is-three
 
-  kind-is : (k name kind : ℕ) → k < 3 → entryAt s k .name ≡ name → kindIn f name ≡ kind → entryAt s k .kind ≡ kind
+  pub kind-is : (k name kind : ℕ) → k < 3 → entryAt s k .name ≡ name → kindIn f name ≡ kind → entryAt s k .kind ≡ kind
   kind-is k name kind h q r =
       let e = entryAt s k in
       eqb-true (e .kind) (kindIn f (e .name)) (sym (o .rule (e .name) (e .kind)) ∙ fit k h .kind) ∙ (rw q r)

@@ -38,10 +38,6 @@ module _ (shape : Shape) (s : List ℕ) (e : Entry) (at last k : ℕ) (w : Walke
   pub walk-torn : (n : ℕ) → k < n → entryFits shape e last at ≡ false → entriesFit shape s n ≡ false
   walk-torn n lt h = all-stays (fitsAt shape s) (k + 1) n (omega arith) (all-step (fitsAt shape s) k ∙ rw (w .fit) (same-test ∙ h))
 
-pub torn-count : (shape : Shape) (s : List ℕ) → countFits shape (count s) ≡ false → verdictOf shape s ≡ Torn
-unfolding soundAs
-torn-count shape s h = rw h
-
 module _ (shape : Shape) (s : List ℕ) (h : countFits shape (count s) ≡ true) where
   pub torn-entry : entriesFit shape s (count s) ≡ false → verdictOf shape s ≡ Torn
   unfolding soundAs

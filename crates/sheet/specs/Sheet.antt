@@ -130,3 +130,18 @@ partOf s e = take (e .len) (drop (e .offset) s)
 abbrev pub bodyOf : List ℕ → Found → List ℕ
 bodyOf s (At e) = partOf s e
 bodyOf s Nothing = []
+
+-- For the private helpers of soundness.
+
+-- an entry of that name and kind, whose body starts at `at`
+unfoldable pub isField : Entry → ℕ → ℕ → ℕ → Bool
+isField e name kind at = eqb (e .name) name && eqb (e .kind) kind && lengthFits (e .kind) (e .len) && eqb (e .offset) at
+
+-- exactly the three fields of a form, in their order
+unfoldable pub isForm : Form → List ℕ → Bool
+isForm f s =
+    let x : Entry = entryAt s 0 in
+    let y : Entry = entryAt s 1 in
+    let z : Entry = entryAt s 2 in
+    eqb (count s) 3 && isField x 1 1 19 && isField y (f .second) (f .kind) (19 + x .len)
+    && isField z (f .third) 3 (19 + x .len + y .len) && eqb (19 + x .len + y .len + z .len) (length s)

@@ -1,9 +1,11 @@
 // The 17 bytes of an amount: the mantissa's 16, the lowest first, and then the scale.
 ghost use mathlib.Core.Path.{_≡_};
-ghost use Prim.Native.Nat.{_<_, _^_};
+ghost use Prim.Native.Nat.{_+_, _<_, _≤_, _^_};
+ghost use lib.ListN.{length};
 ghost use Rattle.sheet.specs.Amounts.{u32At, u64At, amountAt, amountBytes};
 use super::byte;
 use super::u16_at;
+use super::u16_in;
 use amount::Amount;
 use amount::Uint128;
 
@@ -16,10 +18,32 @@ fn u32_at(s: &[u8], i: usize) -> u32
     lo + 65536 * hi
 }
 
+fn u32_in(s: &[u8], i: usize) -> u32
+    requires { ⌜ i + 4 ≤ length (now s) ⌝ }
+    ensures { λ r. ⌜ r ≡ u32At (now (s .entry)) i ⌝ }
+{
+    let lo = u16_in(s, i) as u32;
+    let hi = u16_in(s, i + 2) as u32;
+    lo + 65536 * hi
+}
+
+fn u64_in(s: &[u8], i: usize) -> u64
+    requires { ⌜ i + 8 ≤ length (now s) ⌝ }
+    ensures { λ r. ⌜ r ≡ u64At (now (s .entry)) i ⌝ }
+{
+    let lo = u32_in(s, i) as u64;
+    let hi = u32_in(s, i + 4) as u64;
+    lo + 4294967296 * hi
+}
+
+// Where all eight bytes are there, one test stands for theirs.
 fn u64_at(s: &[u8], i: usize) -> u64
     requires { ⌜ i < 2 ^ 31 ⌝ }
     ensures { λ r. ⌜ r ≡ u64At (now (s .entry)) i ⌝ }
 {
+    if i + 8 <= s.len() {
+        return u64_in(s, i);
+    }
     let lo = u32_at(s, i) as u64;
     let hi = u32_at(s, i + 4) as u64;
     lo + 4294967296 * hi

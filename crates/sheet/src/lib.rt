@@ -1,8 +1,8 @@
 // Sheets: a count, a table of six-byte entries, and the bodies. Read by slice and number; nothing is copied.
 // Every function takes any bytes: a byte past the end counts as 0, and a part past the end is what is there.
 ghost use mathlib.Core.Path.{_≡_};
-ghost use Prim.Native.Nat.{_<_};
-ghost use lib.ListN.{getD, take, drop};
+ghost use Prim.Native.Nat.{_+_, _<_, _≤_};
+ghost use lib.ListN.{getD, length, take, drop};
 ghost use Rattle.sheet.specs.Sheet.{u16At, entryAt, table, lookup, partOf, bodyOf};
 
 mod amounts;
@@ -127,12 +127,28 @@ pub fn u16_at(s: &[u8], i: usize) -> u16
     }
 }
 
-// Entry k of the table.
+// The same, where both bytes are there.
+fn u16_in(s: &[u8], i: usize) -> u16
+    requires { ⌜ i + 2 ≤ length (now s) ⌝ }
+    ensures { λ r. ⌜ r ≡ u16At (now (s .entry)) i ⌝ }
+{
+    s[i] as u16 + 256 * s[i + 1] as u16
+}
+
+// Entry k of the table. Where it is there whole, one test stands for those of its six bytes.
 fn entry_at(s: &[u8], k: usize) -> Entry
     requires { ⌜ k < 256 ⌝ }
     ensures { λ r. ⌜ r ≡ entryAt (now (s .entry)) k ⌝ }
 {
     let p = 1 + 6 * k;
+    if p + 6 <= s.len() {
+        return Entry {
+            name: s[p],
+            kind: s[p + 1],
+            offset: u16_in(s, p + 2),
+            len: u16_in(s, p + 4),
+        };
+    }
     Entry {
         name: byte(s, p),
         kind: byte(s, p + 1),
@@ -148,9 +164,8 @@ pub fn find(s: &[u8], name: u8) -> Found
     let n = byte(s, 0) as usize;
     let mut k: usize = 0;
     while k < n {
-        let e = entry_at(s, k);
-        if e.name == name {
-            return Found::At(e);
+        if byte(s, 1 + 6 * k) == name {
+            return Found::At(entry_at(s, k));
         }
         k += 1;
     }

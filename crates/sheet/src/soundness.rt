@@ -1,7 +1,14 @@
-// Whether a sheet is sound, and of which kind a state is: one walk over the table.
+// Whether a sheet is sound, and of which kind a state is: one reading of the table.
 ghost use mathlib.Core.Path.{_≡_};
-ghost use Rattle.sheet.specs.Sheet.{lengthFits, kindIn, inputAllowed, allowed, countFits, entryFits, verdictOf, stateOf};
+ghost use mathlib.Core.Bool.{cond, _&&_};
+ghost use lib.Dec.{eqb};
+ghost use lib.ListN.{length};
+ghost use Rattle.sheet.specs.Sheet.{lengthFits, inputAllowed, entryFits, verdictOf, isField, isForm, ifSound, stateOf};
+ghost use Rattle.sheet.specs.declared.Shape.the-variants.{Input};
+ghost use Rattle.sheet.specs.declared.State.the-variants as State;
+ghost use Rattle.sheet.specs.declared.Verdict.the-variants.{Sound, Torn};
 use super::AUTHORIZED_BY;
+use super::BALANCE;
 use super::BALANCE_FORM;
 use super::Entry;
 use super::Form;
@@ -9,6 +16,7 @@ use super::KIND_AMOUNT;
 use super::KIND_OTHER;
 use super::KIND_TEXT;
 use super::METER_FORM;
+use super::QUANTITY;
 use super::STACK_FORM;
 use super::SUBJECT;
 use super::Shape;
@@ -33,22 +41,6 @@ fn length_fits(kind: u8, len: u16) -> bool
     false
 }
 
-// The kind that a state of this form has under the name; 0, which no entry has, where it has none.
-fn kind_in(form: Form, name: u8) -> u8
-    ensures { λ r. ⌜ r ≡ kindIn form name ⌝ }
-{
-    if name == SUBJECT {
-        return KIND_TEXT;
-    }
-    if name == form.second {
-        return form.kind;
-    }
-    if name == form.third {
-        return KIND_AMOUNT;
-    }
-    0
-}
-
 fn input_allows(name: u8, kind: u8) -> bool
     ensures { λ r. ⌜ r ≡ inputAllowed name kind ⌝ }
 {
@@ -64,89 +56,135 @@ fn input_allows(name: u8, kind: u8) -> bool
     kind <= KIND_OTHER
 }
 
-// Whether a sheet of this shape may hold the name with the kind.
-fn allows(shape: Shape, name: u8, kind: u8) -> bool
-    ensures { λ r. ⌜ r ≡ allowed shape name kind ⌝ }
+// Whether the body of an entry has a length of its kind and starts at `at`.
+fn body_fits(e: Entry, at: usize) -> bool
+    ensures { λ r. ⌜ r ≡ (lengthFits (e .kind) (e .len) && eqb (e .offset) at) ⌝ }
 {
-    match shape {
-        Shape::Input => input_allows(name, kind),
-        Shape::Stack => kind == kind_in(STACK_FORM, name),
-        Shape::Balance => kind == kind_in(BALANCE_FORM, name),
-        Shape::Meter => kind == kind_in(METER_FORM, name),
-    }
-}
-
-fn count_fits(shape: Shape, n: u8) -> bool
-    ensures { λ r. ⌜ r ≡ countFits shape n ⌝ }
-{
-    match shape {
-        Shape::Input => true,
-        Shape::Stack => n == 3,
-        Shape::Balance => n == 3,
-        Shape::Meter => n == 3,
-    }
-}
-
-// Whether an entry fits above the name `last`, its body starting at `at`.
-fn entry_fits(shape: Shape, e: Entry, last: u8, at: usize) -> bool
-    ensures { λ r. ⌜ r ≡ entryFits shape e last at ⌝ }
-{
-    if e.name <= last {
-        return false;
-    }
-    if !allows(shape, e.name, e.kind) {
-        return false;
-    }
     if !length_fits(e.kind, e.len) {
         return false;
     }
     e.offset as usize == at
 }
 
-// Whether the bytes are a sheet of this shape. `at` is where the next body must start, and moves by each entry's own
-// length; it is a usize, so that no sum of 16-bit lengths wraps.
-pub fn layout(s: &[u8], shape: Shape) -> Verdict
-    ensures { λ r. ⌜ r ≡ verdictOf shape (now (s .entry)) ⌝ }
+// Whether an entry of an input fits above the name `last`, its body starting at `at`.
+fn entry_fits(e: Entry, last: u8, at: usize) -> bool
+    ensures { λ r. ⌜ r ≡ entryFits Input e last at ⌝ }
 {
-    let count = byte(s, 0);
-    if !count_fits(shape, count) {
-        return Verdict::Torn;
+    if e.name <= last {
+        return false;
     }
-    let n = count as usize;
+    if !input_allows(e.name, e.kind) {
+        return false;
+    }
+    body_fits(e, at)
+}
+
+// Whether an entry is the field of that name and kind, its body starting at `at`.
+fn is_field(e: Entry, name: u8, kind: u8, at: usize) -> bool
+    ensures { λ r. ⌜ r ≡ isField e name kind at ⌝ }
+{
+    if e.name != name {
+        return false;
+    }
+    if e.kind != kind {
+        return false;
+    }
+    body_fits(e, at)
+}
+
+// The last body ends the sheet.
+fn ending(s: &[u8], at: usize) -> Verdict
+    ensures { λ r. ⌜ r ≡ cond (eqb at (length (now (s .entry)))) Sound Torn ⌝ }
+{
+    if at == s.len() {
+        return Verdict::Sound;
+    }
+    Verdict::Torn
+}
+
+// Whether the bytes are an input. `at` is where the next body must start, and moves by each entry's own length; it is a
+// usize, so that no sum of 16-bit lengths wraps.
+fn input_layout(s: &[u8]) -> Verdict
+    ensures { λ r. ⌜ r ≡ verdictOf Input (now (s .entry)) ⌝ }
+{
+    let n = byte(s, 0) as usize;
     let mut at = 1 + 6 * n;
     let mut last = 0u8;
     let mut k: usize = 0;
     while k < n {
         let e = entry_at(s, k);
-        if !entry_fits(shape, e, last, at) {
+        if !entry_fits(e, last, at) {
             return Verdict::Torn;
         }
         at += e.len as usize;
         last = e.name;
         k += 1;
     }
-    if at == s.len() {
-        Verdict::Sound
-    } else {
-        Verdict::Torn
+    ending(s, at)
+}
+
+// Whether the bytes are a state of this form. Its three fields stand in their order, so that no walk is needed; a
+// shorter sheet has no table of three.
+fn form_layout(s: &[u8], form: Form) -> Verdict
+    ensures { λ r. ⌜ r ≡ cond (isForm form (now (s .entry))) Sound Torn ⌝ }
+{
+    if s.len() < 19 {
+        return Verdict::Torn;
+    }
+    if s[0] != 3 {
+        return Verdict::Torn;
+    }
+    let first = entry_at(s, 0);
+    if !is_field(first, SUBJECT, KIND_TEXT, 19) {
+        return Verdict::Torn;
+    }
+    let at = 19 + first.len as usize;
+    let second = entry_at(s, 1);
+    if !is_field(second, form.second, form.kind, at) {
+        return Verdict::Torn;
+    }
+    let at = at + second.len as usize;
+    let third = entry_at(s, 2);
+    if !is_field(third, form.third, KIND_AMOUNT, at) {
+        return Verdict::Torn;
+    }
+    ending(s, at + third.len as usize)
+}
+
+// Whether the bytes are a sheet of this shape.
+pub fn layout(s: &[u8], shape: Shape) -> Verdict
+    ensures { λ r. ⌜ r ≡ verdictOf shape (now (s .entry)) ⌝ }
+{
+    match shape {
+        Shape::Input => input_layout(s),
+        Shape::Stack => form_layout(s, STACK_FORM),
+        Shape::Balance => form_layout(s, BALANCE_FORM),
+        Shape::Meter => form_layout(s, METER_FORM),
     }
 }
 
-// What the bytes are as a state.
+fn state_if(v: Verdict, state: State) -> State
+    ensures { λ r. ⌜ r ≡ ifSound v state State.Torn ⌝ }
+{
+    match v {
+        Verdict::Sound => state,
+        Verdict::Torn => State::Torn,
+    }
+}
+
+// What the bytes are as a state. The third entry's name says of which form they can be.
 pub fn state_of(s: &[u8]) -> State
     ensures { λ r. ⌜ r ≡ stateOf (now (s .entry)) ⌝ }
 {
     if s.len() == 0 {
         return State::Absent;
     }
-    let Verdict::Torn = layout(s, Shape::Stack) else {
-        return State::Stack;
-    };
-    let Verdict::Torn = layout(s, Shape::Balance) else {
-        return State::Balance;
-    };
-    let Verdict::Torn = layout(s, Shape::Meter) else {
-        return State::Meter;
-    };
-    State::Torn
+    let third = byte(s, 13);
+    if third == QUANTITY {
+        return state_if(layout(s, Shape::Stack), State::Stack);
+    }
+    if third == BALANCE {
+        return state_if(layout(s, Shape::Balance), State::Balance);
+    }
+    state_if(layout(s, Shape::Meter), State::Meter)
 }
