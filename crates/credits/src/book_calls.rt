@@ -1,4 +1,5 @@
-// The book behind C: a book is lent and one step is done in it. A refused step leaves it as it was.
+// The book behind C: a book is lent and one step is done in it. It is copied for the survey alone: the records that the step looks at
+// are read and stored where they lie. A refused step stores what it read, and so leaves the book as it was.
 ghost use mathlib.Core.Path.{_≡_};
 ghost use Rattle.book.specs.Refusals.{answerOf};
 ghost use Rattle.book.specs.Steps.{Open, Act, Begin, Finish, answer, next, startAnswer, startBook};
@@ -35,9 +36,13 @@ pub extern "C" fn credits_book_open(book: &mut Book, place: u8, sheet: &[u8]) ->
     ensures { λ r. ⌜ (r ≡ answerOf (answer (now (book .entry)) (Open place (now (sheet .entry)))))
         × (now (book .exit) ≡ next (now (book .entry)) (Open place (now (sheet .entry)))) ⌝ }
 {
-    let a = steps::open_answer(*book, place, sheet);
-    *book = steps::open_after(*book, place, a.number, sheet);
-    a
+    let survey = steps::survey_of(*book);
+    let i = (place % 16) as usize;
+    let x = book.places[i];
+    let step = steps::open_step(survey, x, place, sheet);
+    book.places[i] = step.place;
+    book.opened = step.opened;
+    step.answer
 }
 
 #[no_mangle]
@@ -50,9 +55,12 @@ pub extern "C" fn credits_book_act(
     ensures { λ r. ⌜ (r ≡ answerOf (answer (now (book .entry)) (Act place operation (now (sheet .entry)))))
         × (now (book .exit) ≡ next (now (book .entry)) (Act place operation (now (sheet .entry)))) ⌝ }
 {
-    let a = steps::act_answer(*book, place, operation, sheet);
-    *book = steps::act_after(*book, place, operation, a.number, sheet);
-    a
+    let survey = steps::survey_of(*book);
+    let i = (place % 16) as usize;
+    let x = book.places[i];
+    let step = steps::act_step(survey, x, place, operation, sheet);
+    book.places[i] = step.place;
+    step.answer
 }
 
 #[no_mangle]
@@ -66,9 +74,18 @@ pub extern "C" fn credits_book_begin(
     ensures { λ r. ⌜ (r ≡ answerOf (answer (now (book .entry)) (Begin from to transfer (now (sheet .entry)))))
         × (now (book .exit) ≡ next (now (book .entry)) (Begin from to transfer (now (sheet .entry)))) ⌝ }
 {
-    let a = steps::begin_answer(*book, from, to, transfer, sheet);
-    *book = steps::begin_after(*book, from, to, transfer, a.number, sheet);
-    a
+    let survey = steps::survey_of(*book);
+    let i = (from % 16) as usize;
+    let source = book.places[i];
+    let j = (to % 16) as usize;
+    let aim = book.places[j];
+    let k = (transfer % 8) as usize;
+    let load = book.transfers[k];
+    let step = steps::begin_step(survey, source, aim, load, from, to, transfer, sheet);
+    book.places[i] = step.place;
+    book.transfers[k] = step.load;
+    book.pending = step.pending;
+    step.answer
 }
 
 #[no_mangle]
@@ -76,7 +93,14 @@ pub extern "C" fn credits_book_finish(book: &mut Book, transfer: u8) -> Answer
     ensures { λ r. ⌜ (r ≡ answerOf (answer (now (book .entry)) (Finish transfer)))
         × (now (book .exit) ≡ next (now (book .entry)) (Finish transfer)) ⌝ }
 {
-    let a = steps::finish_answer(*book, transfer);
-    *book = steps::finish_after(*book, transfer, a.number);
-    a
+    let survey = steps::survey_of(*book);
+    let k = (transfer % 8) as usize;
+    let load = book.transfers[k];
+    let i = (load.to % 16) as usize;
+    let x = book.places[i];
+    let step = steps::finish_step(survey, x, load, transfer);
+    book.places[i] = step.place;
+    book.transfers[k] = step.load;
+    book.pending = step.pending;
+    step.answer
 }

@@ -2,6 +2,6 @@
 pub mod Texts
 pub mod Same
 pub mod Carried
-pub mod Numbered
 pub mod Tested
 pub mod Sending
+pub mod Stepped

@@ -1,16 +1,21 @@
 // An act: an operation of the balance profile at one place.
 ghost use mathlib.Core.Path.{_≡_};
 ghost use mathlib.Core.Bool.{true};
-ghost use Prim.Native.Nat.{ℕ, _<_};
+ghost use Prim.Native.Nat.{ℕ, _%_, _<_};
 ghost use lib.ListN.{set};
 ghost use Rattle.amount.specs.Numbers.{val};
 ghost use Rattle.book.specs.Book as book;
 ghost use Rattle.book.specs.Book.{placeRecord, setPlaces, wellFormed};
 ghost use Rattle.book.specs.declared.Book.{Book};
+ghost use Rattle.book.specs.Refusals.{answerOf};
 ghost use Rattle.book.specs.Steps.{Act, answer, next, effect, adds, acts};
 ghost use Rattle.book.specs.declared.error.BookOutcome.the-variants.{Accepted};
+ghost use Rattle.steps.specs.Survey.{surveyOf, actStored};
 use crate::alter;
 use crate::reads;
+use crate::survey::ActStep;
+use crate::survey::Survey;
+use crate::survey::survey_of;
 use crate::totals;
 use amount::Amount;
 use amount::Checked;
@@ -19,6 +24,7 @@ use book::Book;
 use book::Place;
 use book::error::BookError;
 use book::error::BookOutcome;
+use book::error::answer_of;
 use profiles::error::Outcome;
 use profiles::error::ProfileError;
 use profiles::registry;
@@ -89,37 +95,16 @@ pub fn act_seen(
     totals::room(total, a.mantissa)
 }
 
-// 28, then the rest.
-pub fn act_outcome(book: Book, place: u8, operation: u8, input: &[u8]) -> BookOutcome
-    ensures { λ r. ⌜ r ≡ answer book (Act place operation (now (input .entry))) ⌝ }
+// 28, then the rest, by a survey of the book and the place's record.
+pub fn act_told(s: Survey, x: Place, place: u8, operation: u8, input: &[u8]) -> BookOutcome
+    ensures { λ r. ⌜ ((b : Book) → s ≡ surveyOf b → x ≡ placeRecord b (place % 16)
+        → r ≡ answer b (Act place operation (now (input .entry)))) ⌝ }
 {
-    let Checked::Some(total) = audit::sound_total(book) else {
+    let total = s.total;
+    let Checked::Some(total) = total else {
         return BookOutcome::Refused(BookError::BadBook);
     };
-    let i = (place % 16) as usize;
-    let x = book.places[i];
-    act_seen(book.opened, x.balance, total, place, operation, input)
-}
-
-// The book after it; a refused one leaves it as it was.
-pub fn act_book(book: Book, place: u8, operation: u8, input: &[u8]) -> Book
-    ensures { λ r. ⌜ r ≡ next book (Act place operation (now (input .entry))) ⌝ }
-{
-    match act_outcome(book, place, operation, input) {
-        BookOutcome::Accepted => acted(book, place, operation, input),
-        BookOutcome::Refused(_) => book,
-    }
-}
-
-// Where it is accepted.
-pub fn acted(mut book: Book, place: u8, operation: u8, input: &[u8]) -> Book
-    ensures { λ r. ⌜ (answer book (Act place operation (now (input .entry))) ≡ Accepted
-        → r ≡ effect book (Act place operation (now (input .entry)))) ⌝ }
-{
-    let i = (place % 16) as usize;
-    let x = book.places[i];
-    book.places[i] = act_record(x, operation, input);
-    book
+    act_seen(s.opened, x.balance, total, place, operation, input)
 }
 
 // The place's record after an accepted act: x with the amount added or subtracted.
@@ -137,4 +122,41 @@ pub fn act_record(x: Place, operation: u8, input: &[u8]) -> Place
     let less = held.checked_sub(a).given();
     let left = less.amount;
     alter::holding(x, left.mantissa)
+}
+
+// The step, for whoever keeps the book; a refused one leaves x as it was.
+pub fn act_step(s: Survey, x: Place, place: u8, operation: u8, input: &[u8]) -> ActStep
+    ensures { λ r. ⌜ ((b : Book) → s ≡ surveyOf b → x ≡ placeRecord b (place % 16)
+        → (r .answer ≡ answerOf (answer b (Act place operation (now (input .entry)))))
+        × (actStored b (place % 16) r ≡ next b (Act place operation (now (input .entry))))) ⌝ }
+{
+    let o = act_told(s, x, place, operation, input);
+    let answer = answer_of(o);
+    match o {
+        BookOutcome::Accepted => ActStep {
+            answer,
+            place: act_record(x, operation, input),
+        },
+        BookOutcome::Refused(_) => ActStep { answer, place: x },
+    }
+}
+
+pub fn act_outcome(book: Book, place: u8, operation: u8, input: &[u8]) -> BookOutcome
+    ensures { λ r. ⌜ r ≡ answer book (Act place operation (now (input .entry))) ⌝ }
+{
+    let i = (place % 16) as usize;
+    let x = book.places[i];
+    act_told(survey_of(book), x, place, operation, input)
+}
+
+// The book after it; a refused one leaves it as it was.
+pub fn act_book(mut book: Book, place: u8, operation: u8, input: &[u8]) -> Book
+    ensures { λ r. ⌜ r ≡ next book (Act place operation (now (input .entry))) ⌝ }
+{
+    let i = (place % 16) as usize;
+    let x = book.places[i];
+    let step = act_step(survey_of(book), x, place, operation, input);
+    let y = step.place;
+    book.places[i] = y;
+    book
 }

@@ -2,26 +2,34 @@
 ghost use mathlib.Core.Path.{_≡_};
 ghost use mathlib.Core.Bool.{true, _||_};
 ghost use mathlib.Core.List.{List};
-ghost use Prim.Native.Nat.{ℕ, _≤_, _<_};
+ghost use Prim.Native.Nat.{ℕ, _%_, _≤_, _<_};
 ghost use lib.Dec.{leb};
 ghost use lib.ListN.{set, take};
 ghost use Rattle.sheet.specs.Fields.{field, text, to-subject, amount};
 ghost use Rattle.profiles.specs.Readers.{amountIn, readAmount};
 ghost use Rattle.profiles.specs.Balance.{balanceRules};
 ghost use Rattle.places.specs.Places.{placeView, putField};
-ghost use Rattle.book.specs.Book.{placeRecord, setPlaces, setTransfer, wellFormed};
+ghost use Rattle.book.specs.Book.{placeRecord, transferRecord, setPlaces, setTransfer, wellFormed};
 ghost use Rattle.book.specs.declared.Book.{Book};
+ghost use Rattle.book.specs.Refusals.{answerOf};
 ghost use Rattle.book.specs.Steps.{Begin, answer, next, effect};
 ghost use Rattle.book.specs.declared.error.BookOutcome.the-variants.{Accepted};
+ghost use Rattle.steps.specs.Survey.{surveyOf, transferStored};
 use crate::alter;
 use crate::reads;
+use crate::sets;
+use crate::survey::Survey;
+use crate::survey::TransferStep;
+use crate::survey::survey_of;
 use amount::Amount;
+use amount::Checked;
 use book::Book;
 use book::Name;
 use book::Place;
 use book::Transfer;
 use book::error::BookError;
 use book::error::BookOutcome;
+use book::error::answer_of;
 use profiles::error::Outcome;
 use profiles::error::ProfileError;
 use profiles::registry;
@@ -91,20 +99,26 @@ pub fn begin_seen(
     reads::said(check_sending(bytes, aim.len, held, input))
 }
 
-// 28, then the rest.
-pub fn begin_outcome(book: Book, from: u8, to: u8, transfer: u8, input: &[u8]) -> BookOutcome
-    ensures { λ r. ⌜ r ≡ answer book (Begin from to transfer (now (input .entry))) ⌝ }
+// 28, then the rest, by a survey of the book and the records of both places.
+pub fn begin_told(
+    s: Survey,
+    source: Place,
+    aim: Place,
+    from: u8,
+    to: u8,
+    transfer: u8,
+    input: &[u8],
+) -> BookOutcome
+    ensures { λ r. ⌜ ((b : Book) → s ≡ surveyOf b → source ≡ placeRecord b (from % 16) → aim ≡ placeRecord b (to % 16)
+        → r ≡ answer b (Begin from to transfer (now (input .entry)))) ⌝ }
 {
-    if !audit::well_formed(book) {
+    let total = s.total;
+    if let Checked::None = total {
         return BookOutcome::Refused(BookError::BadBook);
     }
-    let i = (from % 16) as usize;
-    let source = book.places[i];
-    let j = (to % 16) as usize;
-    let aim = book.places[j];
     begin_seen(
-        book.opened,
-        book.pending,
+        s.opened,
+        s.pending,
         source.balance,
         aim.subject,
         from,
@@ -112,31 +126,6 @@ pub fn begin_outcome(book: Book, from: u8, to: u8, transfer: u8, input: &[u8]) -
         transfer,
         input,
     )
-}
-
-// The book after it; a refused one leaves it as it was.
-pub fn begin_book(book: Book, from: u8, to: u8, transfer: u8, input: &[u8]) -> Book
-    ensures { λ r. ⌜ r ≡ next book (Begin from to transfer (now (input .entry))) ⌝ }
-{
-    match begin_outcome(book, from, to, transfer, input) {
-        BookOutcome::Accepted => begun(book, from, to, transfer, input),
-        BookOutcome::Refused(_) => book,
-    }
-}
-
-// Where it is accepted.
-pub fn begun(mut book: Book, from: u8, to: u8, transfer: u8, input: &[u8]) -> Book
-    ensures { λ r. ⌜ (answer book (Begin from to transfer (now (input .entry))) ≡ Accepted
-        → r ≡ effect book (Begin from to transfer (now (input .entry)))) ⌝ }
-{
-    if off_the_book(from, to, transfer) {
-        return book;
-    }
-    let i = from as usize;
-    let x = book.places[i];
-    book.places[i] = begin_record(x, input);
-    let amount = reads::asked(input, sheet::AMOUNT);
-    alter::with_transfer(book, transfer, Transfer { from, to, amount })
 }
 
 // The source's record after an accepted begin: x with the amount less.
@@ -151,4 +140,80 @@ pub fn begin_record(x: Place, input: &[u8]) -> Place
     let less = held.checked_sub(amount).given();
     let left = less.amount;
     alter::holding(x, left.mantissa)
+}
+
+// The step, for whoever keeps the book; a refused one leaves the records and the set as they were.
+pub fn begin_step(
+    s: Survey,
+    source: Place,
+    aim: Place,
+    load: Transfer,
+    from: u8,
+    to: u8,
+    transfer: u8,
+    input: &[u8],
+) -> TransferStep
+    ensures { λ r. ⌜ ((b : Book) → s ≡ surveyOf b → source ≡ placeRecord b (from % 16) → aim ≡ placeRecord b (to % 16)
+        → load ≡ transferRecord b (transfer % 8)
+        → (r .answer ≡ answerOf (answer b (Begin from to transfer (now (input .entry)))))
+        × (transferStored b (from % 16) (transfer % 8) r ≡ next b (Begin from to transfer (now (input .entry))))) ⌝ }
+{
+    let o = begin_told(s, source, aim, from, to, transfer, input);
+    let answer = answer_of(o);
+    match o {
+        BookOutcome::Accepted => {
+            let amount = reads::asked(input, sheet::AMOUNT);
+            TransferStep {
+                answer,
+                place: begin_record(source, input),
+                load: Transfer { from, to, amount },
+                pending: sets::with8(s.pending, transfer % 8),
+            }
+        }
+        BookOutcome::Refused(_) => TransferStep {
+            answer,
+            place: source,
+            load,
+            pending: s.pending,
+        },
+    }
+}
+
+pub fn begin_outcome(book: Book, from: u8, to: u8, transfer: u8, input: &[u8]) -> BookOutcome
+    ensures { λ r. ⌜ r ≡ answer book (Begin from to transfer (now (input .entry))) ⌝ }
+{
+    let i = (from % 16) as usize;
+    let source = book.places[i];
+    let j = (to % 16) as usize;
+    let aim = book.places[j];
+    begin_told(survey_of(book), source, aim, from, to, transfer, input)
+}
+
+// The book after it; a refused one leaves it as it was.
+pub fn begin_book(mut book: Book, from: u8, to: u8, transfer: u8, input: &[u8]) -> Book
+    ensures { λ r. ⌜ r ≡ next book (Begin from to transfer (now (input .entry))) ⌝ }
+{
+    let i = (from % 16) as usize;
+    let source = book.places[i];
+    let j = (to % 16) as usize;
+    let aim = book.places[j];
+    let k = (transfer % 8) as usize;
+    let load = book.transfers[k];
+    let step = begin_step(
+        survey_of(book),
+        source,
+        aim,
+        load,
+        from,
+        to,
+        transfer,
+        input,
+    );
+    let place = step.place;
+    book.places[i] = place;
+    let left = step.load;
+    book.transfers[k] = left;
+    let pending = step.pending;
+    book.pending = pending;
+    book
 }

@@ -1,16 +1,21 @@
 // An opening of a place: a subject with its first balance.
 ghost use mathlib.Core.Path.{_≡_};
 ghost use mathlib.Core.Bool.{true};
-ghost use Prim.Native.Nat.{ℕ};
+ghost use Prim.Native.Nat.{ℕ, _%_};
 ghost use Rattle.amount.specs.Numbers.{val};
 ghost use Rattle.book.specs.Book as book;
-ghost use Rattle.book.specs.Book.{openPlace, wellFormed};
+ghost use Rattle.book.specs.Book.{placeRecord, openPlace, wellFormed};
 ghost use Rattle.book.specs.declared.Book.{Book};
+ghost use Rattle.book.specs.Refusals.{answerOf};
 ghost use Rattle.book.specs.Steps.{Open, answer, next, effect};
 ghost use Rattle.book.specs.declared.error.BookOutcome.the-variants.{Accepted};
-use crate::alter;
+ghost use Rattle.steps.specs.Survey.{surveyOf, openStored};
 use crate::reads;
+use crate::sets;
 use crate::start;
+use crate::survey::OpenStep;
+use crate::survey::Survey;
+use crate::survey::survey_of;
 use crate::totals;
 use amount::Checked;
 use amount::Uint128;
@@ -19,6 +24,7 @@ use book::Name;
 use book::Place;
 use book::error::BookError;
 use book::error::BookOutcome;
+use book::error::answer_of;
 use profiles::error::Outcome;
 use profiles::error::ProfileError;
 use profiles::registry;
@@ -56,32 +62,15 @@ pub fn open_seen(unit: Name, opened: u16, total: Uint128, place: u8, input: &[u8
     totals::room(total, a.mantissa)
 }
 
-// 28, then the rest.
-pub fn open_outcome(book: Book, place: u8, input: &[u8]) -> BookOutcome
-    ensures { λ r. ⌜ r ≡ answer book (Open place (now (input .entry))) ⌝ }
+// 28, then the rest, by a survey of the book.
+pub fn open_told(s: Survey, place: u8, input: &[u8]) -> BookOutcome
+    ensures { λ r. ⌜ ((b : Book) → s ≡ surveyOf b → r ≡ answer b (Open place (now (input .entry)))) ⌝ }
 {
-    let Checked::Some(total) = audit::sound_total(book) else {
+    let total = s.total;
+    let Checked::Some(total) = total else {
         return BookOutcome::Refused(BookError::BadBook);
     };
-    open_seen(book.unit, book.opened, total, place, input)
-}
-
-// The book after it; a refused one leaves it as it was.
-pub fn open_book(book: Book, place: u8, input: &[u8]) -> Book
-    ensures { λ r. ⌜ r ≡ next book (Open place (now (input .entry))) ⌝ }
-{
-    match open_outcome(book, place, input) {
-        BookOutcome::Accepted => opened_at(book, place, input),
-        BookOutcome::Refused(_) => book,
-    }
-}
-
-// Where it is accepted.
-pub fn opened_at(book: Book, place: u8, input: &[u8]) -> Book
-    ensures { λ r. ⌜ (answer book (Open place (now (input .entry))) ≡ Accepted
-        → r ≡ effect book (Open place (now (input .entry)))) ⌝ }
-{
-    alter::with_place(book, place % 16, open_record(input))
+    open_seen(s.unit, s.opened, total, place, input)
 }
 
 // The place's record after an accepted open: the sheet's subject and balance.
@@ -92,4 +81,46 @@ pub fn open_record(input: &[u8]) -> Place
     let subject = start::short_name(registry::text(input, sheet::SUBJECT));
     let balance = reads::asked(input, sheet::BALANCE);
     Place { subject, balance }
+}
+
+// The step, for whoever keeps the book; a refused one leaves x and the set as they were.
+pub fn open_step(s: Survey, x: Place, place: u8, input: &[u8]) -> OpenStep
+    ensures { λ r. ⌜ ((b : Book) → s ≡ surveyOf b → x ≡ placeRecord b (place % 16)
+        → (r .answer ≡ answerOf (answer b (Open place (now (input .entry)))))
+        × (openStored b (place % 16) r ≡ next b (Open place (now (input .entry))))) ⌝ }
+{
+    let o = open_told(s, place, input);
+    let answer = answer_of(o);
+    match o {
+        BookOutcome::Accepted => OpenStep {
+            answer,
+            place: open_record(input),
+            opened: sets::with16(s.opened, place % 16),
+        },
+        BookOutcome::Refused(_) => OpenStep {
+            answer,
+            place: x,
+            opened: s.opened,
+        },
+    }
+}
+
+pub fn open_outcome(book: Book, place: u8, input: &[u8]) -> BookOutcome
+    ensures { λ r. ⌜ r ≡ answer book (Open place (now (input .entry))) ⌝ }
+{
+    open_told(survey_of(book), place, input)
+}
+
+// The book after it; a refused one leaves it as it was.
+pub fn open_book(mut book: Book, place: u8, input: &[u8]) -> Book
+    ensures { λ r. ⌜ r ≡ next book (Open place (now (input .entry))) ⌝ }
+{
+    let i = (place % 16) as usize;
+    let x = book.places[i];
+    let step = open_step(survey_of(book), x, place, input);
+    let y = step.place;
+    book.places[i] = y;
+    let opened = step.opened;
+    book.opened = opened;
+    book
 }

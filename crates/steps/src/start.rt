@@ -3,6 +3,7 @@ ghost use mathlib.Core.Path.{_≡_};
 ghost use Prim.Native.Nat.{_≤_};
 ghost use lib.ListN.{length};
 ghost use Rattle.book.specs.Book.{nameOf, blankBook, setUnit};
+ghost use Rattle.book.specs.Refusals.{answerOf};
 ghost use Rattle.book.specs.Steps.{startAnswer, startBook};
 use amount::Amount;
 use book::Book;
@@ -11,6 +12,8 @@ use book::Place;
 use book::Transfer;
 use book::error::BookError;
 use book::error::BookOutcome;
+use book::error::answer_of;
+use profiles::error::Answer;
 use profiles::error::ProfileError;
 
 // A text of at most 32 bytes as a name.
@@ -51,6 +54,13 @@ pub fn start_outcome(unit: &[u8]) -> BookOutcome
         return BookOutcome::Refused(BookError::LongName(sheet::UNIT));
     }
     BookOutcome::Accepted
+}
+
+// The same in numbers.
+pub fn start_answer(unit: &[u8]) -> Answer
+    ensures { λ r. ⌜ r ≡ answerOf (startAnswer (now (unit .entry))) ⌝ }
+{
+    answer_of(start_outcome(unit))
 }
 
 // A refused one gives a book of zeros.

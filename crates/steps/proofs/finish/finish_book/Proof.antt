@@ -1,35 +1,63 @@
-use Rattle.steps.proofs.Carried.{next-done, next-kept}
-use Rattle.book.specs.Steps.{Step, Finish}
+use Rattle.book.specs.Book.{placeRecord, transferRecord}
+use mathlib.Core.Path.{refl}
 use borrow.Author.Needs.{needs}
 use Rattle.steps.proofs.finish.finish_book.Statement.{statement}
 use Rattle.steps.proofs.finish.finish_book.Tie as tie
 
-abbrev step : tie.Start → Step
-step c = Finish (c .args .t)
+cast-i : tie.Need-cast-i
+cast-i c = search needs
 
-finish-outcome-requires : tie.Need-finish-outcome-requires
-finish-outcome-requires c κs = search needs
+mul-load : tie.Need-mul-load
+mul-load c = search needs
 
-enum-told : tie.Need-enum-told
-enum-told c = search needs
+element-copy-out-load : tie.Need-element-copy-out-load
+element-copy-out-load c = search needs
 
-finished-requires : tie.Need-finished-requires
-finished-requires c κs = search needs
+cast-k : tie.Need-cast-k
+cast-k c = search needs
 
-enum-told-2 : tie.Need-enum-told-2
-enum-told-2 c = search needs
+mul-x : tie.Need-mul-x
+mul-x c = search needs
+
+element-copy-out-x : tie.Need-element-copy-out-x
+element-copy-out-x c = search needs
+
+survey-of-requires : tie.Need-survey-of-requires
+survey-of-requires c κs = search needs
+
+finish-step-requires : tie.Need-finish-step-requires
+finish-step-requires c κs = search needs
+
+mul-place : tie.Need-mul-place
+mul-place c = search needs
+
+element-set-from-place : tie.Need-element-set-from-place
+element-set-from-place c = search needs
+
+mul-left : tie.Need-mul-left
+mul-left c = search needs
+
+element-set-from-left : tie.Need-element-set-from-left
+element-set-from-left c = search needs
 
 returns : tie.Need-returns
-returns c =
-    let x = c .before .before .before .before in
-    next-done (x .args .book) _ (step x) _ (c .before .before .before .finish-outcome .ensures) (c .before .enum-told .given .1) (c .finished .ensures)
-
-returns-2 : tie.Need-returns-2
-returns-2 c =
-    let x = c .before .before .before in
-    next-kept (x .args .book) (step x) _ _ (c .before .before .finish-outcome .ensures) (c .enum-told2 .given .1)
+unfolding placeRecord transferRecord
+returns c = c .before .before .finish-step .ensures (c .before .before .before .before .before .before .before .args .t1) (c .before .before .before .survey-of .ensures) refl refl .1
 
 pub finish-book-spec : {M : Type 1} → statement M
 finish-book-spec =
     tie.close
-    (tie.spec finish-outcome-requires enum-told finished-requires enum-told-2 returns returns-2)
+    (tie.spec
+    cast-i
+    mul-load
+    element-copy-out-load
+    cast-k
+    mul-x
+    element-copy-out-x
+    survey-of-requires
+    finish-step-requires
+    mul-place
+    element-set-from-place
+    mul-left
+    element-set-from-left
+    returns)

@@ -1,35 +1,43 @@
-use Rattle.steps.proofs.Carried.{next-done, next-kept}
-use Rattle.book.specs.Steps.{Step, Open}
+use Rattle.book.specs.Book.{placeRecord}
+use mathlib.Core.Path.{refl}
 use borrow.Author.Needs.{needs}
 use Rattle.steps.proofs.open.open_book.Statement.{statement}
 use Rattle.steps.proofs.open.open_book.Tie as tie
 
-abbrev step : tie.Start → Step
-step c = Open (c .args .place) (c .args .input .now)
+cast-i : tie.Need-cast-i
+cast-i c = search needs
 
-open-outcome-requires : tie.Need-open-outcome-requires
-open-outcome-requires c κs = search needs
+mul-x : tie.Need-mul-x
+mul-x c = search needs
 
-enum-told : tie.Need-enum-told
-enum-told c = search needs
+element-copy-out-x : tie.Need-element-copy-out-x
+element-copy-out-x c = search needs
 
-opened-at-requires : tie.Need-opened-at-requires
-opened-at-requires c κs = search needs
+survey-of-requires : tie.Need-survey-of-requires
+survey-of-requires c κs = search needs
 
-enum-told-2 : tie.Need-enum-told-2
-enum-told-2 c = search needs
+open-step-requires : tie.Need-open-step-requires
+open-step-requires c κs = search needs
+
+mul-y : tie.Need-mul-y
+mul-y c = search needs
+
+element-set-from-y : tie.Need-element-set-from-y
+element-set-from-y c = search needs
 
 returns : tie.Need-returns
-returns c =
-    let x = c .before .before .before .before .before in
-    next-done (x .args .book) _ (step x) _ (c .before .before .before .open-outcome .ensures) (c .before .enum-told .given .1) (c .opened-at .ensures)
-
-returns-2 : tie.Need-returns-2
-returns-2 c =
-    let x = c .before .before .before .before in
-    next-kept (x .args .book) (step x) _ _ (c .before .before .open-outcome .ensures) (c .enum-told2 .given .1)
+unfolding placeRecord
+returns c = c .before .open-step .ensures (c .before .before .before .before .before .args .t1) (c .before .before .survey-of .ensures) refl .1
 
 pub open-book-spec : {M : Type 1} → statement M
 open-book-spec =
     tie.close
-    (tie.spec open-outcome-requires enum-told opened-at-requires enum-told-2 returns returns-2)
+    (tie.spec
+    cast-i
+    mul-x
+    element-copy-out-x
+    survey-of-requires
+    open-step-requires
+    mul-y
+    element-set-from-y
+    returns)
