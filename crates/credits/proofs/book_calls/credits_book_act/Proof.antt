@@ -157,32 +157,32 @@ module _ {M : Type 1} (𝓤 : URA M) (H : Heap 𝓤) (A : Atoms 𝓤) (W : Given
           enter ! C Λ code.function (vptr b o ∷ vint w8 p ∷ vint w8 op ∷ u ∷ []) _ $
           alloc1 ! (λ l0. alloc1 ! (λ l1. alloc1 ! (λ l2. alloc1 ! (λ l3. alloc1 ! (λ l4. alloc1 ! (λ l5. alloc1 ! (λ l6. alloc1 ! (λ l7. alloc1 ! (λ l8. alloc1 ! (λ l9. alloc1 ! (λ l10. alloc1 ! (λ l11. alloc1 ! (λ l12. alloc1 ! (λ l13. alloc1 ! (λ l14. alloc1 ! (λ l15. alloc1 ! (λ l16. alloc0 ! $ params1 ! $
           pass1 ! (init ! 30 refl (tt, tt)) $ pass1 ! (init ! 28 refl (tt, record { fits = p-fits })) $ pass1 ! (init ! 26 refl (tt, record { fits = op-fits })) $ pass1 ! (init ! 24 refl (shr-slice-lawful 𝓤 H A W (named 1) κ′ u8 .typed s (u ∷ []) is-slice .0)) $ pass0 ! $
-          move ! (34 ∷ 35 ∷ 36 ∷ []) $ open-ref ! tt (mem T.the-row) {b = b} {o = o} $
+          move ! (34 ∷ 35 ∷ 36 ∷ 0 ∷ 2 ∷ 4 ∷ 6 ∷ 8 ∷ 10 ∷ 12 ∷ 14 ∷ 16 ∷ 18 ∷ 20 ∷ 22 ∷ 24 ∷ 26 ∷ 28 ∷ 30 ∷ 32 ∷ []) $ open-ref ! tt (mem T.the-row) {b = b} {o = o} $
           knows ! (book-kind W) (all-of W b o h) (λ was. knows ! (place-kind W) (of-place W b o h (p % 16) low) (λ is-held.
-          -- [the book; the open borrow; obs; auth; the locals, last first, each with its end; what the slice owns, twice; true; its token]
-          assigns ! (of-opd ! (load ! (from ! (hop ! (look ! 34 refl) (stop !))) (look-part (book-kind W) ! 0 (all-of W b o h) refl))) (from ! (stop !)) (init ! 18 refl (book-kind W .typed h was)) $
-          surveys W at-mem run h ! fm known-survey was (and-then ! (value ! 19 refl) (no-more !)) (λ v e is-v.
-          land ! (from ! (stop !)) (init ! 26 refl (survey-kind W .typed v is-v)) $
+          -- [the book; the open borrow; obs; auth; the locals, last first; their ends; what the slice owns, twice; true; its token]
+          assigns ! (of-opd ! (load ! (from ! (hop ! (look ! 19 refl) (stop !))) (look-part (book-kind W) ! 0 (all-of W b o h) refl))) (from ! (stop !)) (init ! 11 refl (book-kind W .typed h was)) $
+          surveys W at-mem run h ! fm known-survey was (and-then ! (value ! 12 refl) (no-more !)) (λ v e is-v.
+          land ! (from ! (stop !)) (init ! 15 refl (survey-kind W .typed v is-v)) $
           -- `held` is read
-          assigns ! (bin ! (value ! 32 refl) (lit ! tt) (lit< tt)) (from ! (stop !)) (init ! 16 refl (tt, record { fits = omega arith })) $
-          assigns ! (un ! (value ! 16 refl) (record { fits = omega arith })) (from ! (stop !)) (init ! 24 refl (tt, record { fits = omega arith })) $
-          assigns ! (bin ! (value ! 24 refl) (lit ! tt) (record { fits = omega arith })) (from ! (stop !)) (init ! 14 refl (tt, record { fits = omega arith })) $
-          assigns ! (addr ! (from ! (hop ! (look ! 34 refl) (fld ! refl (stop !))))) (from ! (stop !)) (init ! 12 refl (tt, tt)) $
-          assigns ! (bin ! (value ! 12 refl) (value ! 14 refl) tt) (from ! (stop !)) (init ! 10 refl (tt, tt)) $
-          assigns ! (of-opd ! (load ! (from ! (hop ! (look ! 10 refl) (stop !))) (look-part (place-kind W) ! 0 (of-place W b o h (p % 16) low) refl))) (from ! (stop !)) (init ! 8 refl (place-kind W .typed held is-held)) $
-          assigns ! (of-opd ! (value ! 8 refl)) (from ! (stop !)) (init ! 22 refl (place-kind W .typed held is-held)) $
+          assigns ! (bin ! (value ! 18 refl) (lit ! tt) (lit< tt)) (from ! (stop !)) (init ! 10 refl (tt, record { fits = omega arith })) $
+          assigns ! (un ! (value ! 10 refl) (record { fits = omega arith })) (from ! (stop !)) (init ! 14 refl (tt, record { fits = omega arith })) $
+          assigns ! (bin ! (value ! 14 refl) (lit ! tt) (record { fits = omega arith })) (from ! (stop !)) (init ! 9 refl (tt, record { fits = omega arith })) $
+          assigns ! (addr ! (from ! (hop ! (look ! 19 refl) (fld ! refl (stop !))))) (from ! (stop !)) (init ! 8 refl (tt, tt)) $
+          assigns ! (bin ! (value ! 8 refl) (value ! 9 refl) tt) (from ! (stop !)) (init ! 7 refl (tt, tt)) $
+          assigns ! (of-opd ! (load ! (from ! (hop ! (look ! 7 refl) (stop !))) (look-part (place-kind W) ! 0 (of-place W b o h (p % 16) low) refl))) (from ! (stop !)) (init ! 6 refl (place-kind W .typed held is-held)) $
+          assigns ! (of-opd ! (value ! 6 refl)) (from ! (stop !)) (init ! 13 refl (place-kind W .typed held is-held)) $
           move ! (38 ∷ 41 ∷ []) $ use2 W (raw (Steps 𝓤 H A at-mem run .pre (to v))) (asks v p-fits op-fits is-v is-held) $
-          calls-at ! fm (Steps 𝓤 H A at-mem run) known-step (to v) (and-then ! (value ! 27 refl) (and-then ! (value ! 23 refl) (and-then ! (value ! 33 refl) (and-then ! (value ! 31 refl) (and-then ! (value ! 29 refl) (no-more !)))))) (λ r. result ! step-kind (‵ (flft κ′ q′) ⊛ ‵ ftrue) (Says v) (Met v) (said v) (λ z met is.
+          calls-at ! fm (Steps 𝓤 H A at-mem run) known-step (to v) (and-then ! (value ! 16 refl) (and-then ! (value ! 14 refl) (and-then ! (value ! 19 refl) (and-then ! (value ! 18 refl) (and-then ! (value ! 17 refl) (no-more !)))))) (λ r. result ! step-kind (‵ (flft κ′ q′) ⊛ ‵ ftrue) (Says v) (Met v) (said v) (λ z met is.
           -- [the slice's token; the book; the open borrow; ..]
-          land ! (from ! (stop !)) (init ! 21 refl (step-kind .typed z is)) $
+          land ! (from ! (stop !)) (init ! 13 refl (step-kind .typed z is)) $
           -- the place is stored
-          assigns ! (bin ! (value ! 25 refl) (lit ! tt) (record { fits = omega arith })) (from ! (stop !)) (store ! 15 refl (tt, record { fits = omega arith })) $
-          assigns ! (addr ! (from ! (hop ! (look ! 35 refl) (fld ! refl (stop !))))) (from ! (stop !)) (init ! 7 refl (tt, tt)) $
-          assigns ! (bin ! (value ! 7 refl) (value ! 15 refl) tt) (from ! (stop !)) (init ! 5 refl (tt, tt)) $
-          assigns ! (of-opd ! (load ! (from ! (fld ! refl (stop !))) (look-in ! 21 (sub ! 1 refl (whole !))))) (from ! (hop ! (look ! 5 refl) (stop !))) (store-part (place-kind W) ! 1 (to-place W b o h (p % 16) (z .place) low) (place-is z is) refl) $
-          assigns ! (of-opd ! (load ! (from ! (fld ! refl (stop !))) (look-in ! 21 (sub ! 0 refl (whole !))))) (from ! (stop !)) (init ! 37 refl (answer-kind W .typed (z .answer) (answer-is z is))) $
+          assigns ! (bin ! (value ! 15 refl) (lit ! tt) (record { fits = omega arith })) (from ! (stop !)) (store ! 10 refl (tt, record { fits = omega arith })) $
+          assigns ! (addr ! (from ! (hop ! (look ! 20 refl) (fld ! refl (stop !))))) (from ! (stop !)) (init ! 6 refl (tt, tt)) $
+          assigns ! (bin ! (value ! 6 refl) (value ! 10 refl) tt) (from ! (stop !)) (init ! 5 refl (tt, tt)) $
+          assigns ! (of-opd ! (load ! (from ! (fld ! refl (stop !))) (look-in ! 13 (sub ! 1 refl (whole !))))) (from ! (hop ! (look ! 5 refl) (stop !))) (store-part (place-kind W) ! 1 (to-place W b o h (p % 16) (z .place) low) (place-is z is) refl) $
+          assigns ! (of-opd ! (load ! (from ! (fld ! refl (stop !))) (look-in ! 13 (sub ! 0 refl (whole !))))) (from ! (stop !)) (init ! 21 refl (answer-kind W .typed (z .answer) (answer-is z is))) $
           move ! (1 ∷ 2 ∷ 3 ∷ 4 ∷ []) $ close-ref ! tt (mem T.the-row) (left z) {b = b} {o = o} $
-          returns ! (look ! 36 refl) $ leaves ! 36 refl refl $ leaves ! 34 refl refl $ leaves ! 32 refl refl $ leaves ! 30 refl refl $ leaves ! 28 refl refl $ leaves ! 26 refl refl $ leaves ! 24 refl refl $ leaves ! 22 refl refl $ leaves ! 20 refl refl $ leaves ! 18 refl refl $ leaves ! 16 refl refl $ leaves ! 14 refl refl $ leaves ! 12 refl refl $ leaves ! 10 refl refl $ leaves ! 8 refl refl $ leaves ! 6 refl refl $ leaves ! 4 refl refl $ free0 ! $
+          returns ! (look ! 20 refl) $ move ! (20 ∷ 37 ∷ 19 ∷ 36 ∷ 18 ∷ 35 ∷ 17 ∷ 34 ∷ 16 ∷ 33 ∷ 15 ∷ 32 ∷ 14 ∷ 31 ∷ 13 ∷ 30 ∷ 12 ∷ 29 ∷ 11 ∷ 28 ∷ 10 ∷ 27 ∷ 9 ∷ 26 ∷ 8 ∷ 25 ∷ 7 ∷ 24 ∷ 6 ∷ 23 ∷ 5 ∷ 22 ∷ 4 ∷ 21 ∷ []) $ leaves ! $ leaves ! $ leaves ! $ leaves ! $ leaves ! $ leaves ! $ leaves ! $ leaves ! $ leaves ! $ leaves ! $ leaves ! $ leaves ! $ leaves ! $ leaves ! $ leaves ! $ leaves ! $ leaves ! $ free0 ! $
           keep ! (0 ∷ 1 ∷ 2 ∷ 3 ∷ 4 ∷ []) $ by ! (exits (z .answer) (left z) (met h e refl) (answer-is z is))))))))))))))))))))))))
 
 module _ {M : Type 1} (𝓤 : URA M) (H : Heap 𝓤) (A : Atoms 𝓤) (W : Given 𝓤 H A) (at-mem : Memory → SProp 𝓤) (run : Routine → Fun 𝓤) where

@@ -184,54 +184,54 @@ module _ {M : Type 1} (𝓤 : URA M) (H : Heap 𝓤) (A : Atoms 𝓤) (W : Given
           enter ! C Λ code.function (vptr b o ∷ vint w8 src ∷ vint w8 dst ∷ vint w8 t ∷ u ∷ []) _ $
           alloc1 ! (λ l0. alloc1 ! (λ l1. alloc1 ! (λ l2. alloc1 ! (λ l3. alloc1 ! (λ l4. alloc1 ! (λ l5. alloc1 ! (λ l6. alloc1 ! (λ l7. alloc1 ! (λ l8. alloc1 ! (λ l9. alloc1 ! (λ l10. alloc1 ! (λ l11. alloc1 ! (λ l12. alloc1 ! (λ l13. alloc1 ! (λ l14. alloc1 ! (λ l15. alloc1 ! (λ l16. alloc1 ! (λ l17. alloc1 ! (λ l18. alloc1 ! (λ l19. alloc1 ! (λ l20. alloc1 ! (λ l21. alloc1 ! (λ l22. alloc1 ! (λ l23. alloc1 ! (λ l24. alloc1 ! (λ l25. alloc1 ! (λ l26. alloc1 ! (λ l27. alloc1 ! (λ l28. alloc0 ! $ params1 ! $
           pass1 ! (init ! 54 refl (tt, tt)) $ pass1 ! (init ! 52 refl (tt, record { fits = src-fits })) $ pass1 ! (init ! 50 refl (tt, record { fits = dst-fits })) $ pass1 ! (init ! 48 refl (tt, record { fits = t-fits })) $ pass1 ! (init ! 46 refl (shr-slice-lawful 𝓤 H A W (named 1) κ′ u8 .typed s (u ∷ []) is-slice .0)) $ pass0 ! $
-          move ! (58 ∷ 59 ∷ 60 ∷ []) $ open-ref ! tt (mem T.the-row) {b = b} {o = o} $
+          move ! (58 ∷ 59 ∷ 60 ∷ 0 ∷ 2 ∷ 4 ∷ 6 ∷ 8 ∷ 10 ∷ 12 ∷ 14 ∷ 16 ∷ 18 ∷ 20 ∷ 22 ∷ 24 ∷ 26 ∷ 28 ∷ 30 ∷ 32 ∷ 34 ∷ 36 ∷ 38 ∷ 40 ∷ 42 ∷ 44 ∷ 46 ∷ 48 ∷ 50 ∷ 52 ∷ 54 ∷ 56 ∷ []) $ open-ref ! tt (mem T.the-row) {b = b} {o = o} $
           knows ! (book-kind W) (all-of W b o h) (λ was. knows ! (place-kind W) (of-place W b o h (src % 16) low-src) (λ is-source. knows ! (place-kind W) (of-place W b o h (dst % 16) low-dst) (λ is-aim. knows ! (transfer-kind W) (of-transfer W b o h (t % 8) low-t) (λ is-moved.
-          -- [the book; the open borrow; obs; auth; the locals, last first, each with its end; what the slice owns, twice; true; its token]
-          assigns ! (of-opd ! (load ! (from ! (hop ! (look ! 58 refl) (stop !))) (look-part (book-kind W) ! 0 (all-of W b o h) refl))) (from ! (stop !)) (init ! 32 refl (book-kind W .typed h was)) $
-          surveys W at-mem run h ! fm known-survey was (and-then ! (value ! 33 refl) (no-more !)) (λ v e is-v.
-          land ! (from ! (stop !)) (init ! 48 refl (survey-kind W .typed v is-v)) $
+          -- [the book; the open borrow; obs; auth; the locals, last first; their ends; what the slice owns, twice; true; its token]
+          assigns ! (of-opd ! (load ! (from ! (hop ! (look ! 31 refl) (stop !))) (look-part (book-kind W) ! 0 (all-of W b o h) refl))) (from ! (stop !)) (init ! 18 refl (book-kind W .typed h was)) $
+          surveys W at-mem run h ! fm known-survey was (and-then ! (value ! 19 refl) (no-more !)) (λ v e is-v.
+          land ! (from ! (stop !)) (init ! 26 refl (survey-kind W .typed v is-v)) $
           -- `source` is read
-          assigns ! (bin ! (value ! 56 refl) (lit ! tt) (lit< tt)) (from ! (stop !)) (init ! 30 refl (tt, record { fits = omega arith })) $
-          assigns ! (un ! (value ! 30 refl) (record { fits = omega arith })) (from ! (stop !)) (init ! 46 refl (tt, record { fits = omega arith })) $
-          assigns ! (bin ! (value ! 46 refl) (lit ! tt) (record { fits = omega arith })) (from ! (stop !)) (init ! 28 refl (tt, record { fits = omega arith })) $
-          assigns ! (addr ! (from ! (hop ! (look ! 58 refl) (fld ! refl (stop !))))) (from ! (stop !)) (init ! 26 refl (tt, tt)) $
-          assigns ! (bin ! (value ! 26 refl) (value ! 28 refl) tt) (from ! (stop !)) (init ! 24 refl (tt, tt)) $
-          assigns ! (of-opd ! (load ! (from ! (hop ! (look ! 24 refl) (stop !))) (look-part (place-kind W) ! 0 (of-place W b o h (src % 16) low-src) refl))) (from ! (stop !)) (init ! 22 refl (place-kind W .typed source is-source)) $
-          assigns ! (of-opd ! (value ! 22 refl)) (from ! (stop !)) (init ! 44 refl (place-kind W .typed source is-source)) $
+          assigns ! (bin ! (value ! 30 refl) (lit ! tt) (lit< tt)) (from ! (stop !)) (init ! 17 refl (tt, record { fits = omega arith })) $
+          assigns ! (un ! (value ! 17 refl) (record { fits = omega arith })) (from ! (stop !)) (init ! 25 refl (tt, record { fits = omega arith })) $
+          assigns ! (bin ! (value ! 25 refl) (lit ! tt) (record { fits = omega arith })) (from ! (stop !)) (init ! 16 refl (tt, record { fits = omega arith })) $
+          assigns ! (addr ! (from ! (hop ! (look ! 31 refl) (fld ! refl (stop !))))) (from ! (stop !)) (init ! 15 refl (tt, tt)) $
+          assigns ! (bin ! (value ! 15 refl) (value ! 16 refl) tt) (from ! (stop !)) (init ! 14 refl (tt, tt)) $
+          assigns ! (of-opd ! (load ! (from ! (hop ! (look ! 14 refl) (stop !))) (look-part (place-kind W) ! 0 (of-place W b o h (src % 16) low-src) refl))) (from ! (stop !)) (init ! 13 refl (place-kind W .typed source is-source)) $
+          assigns ! (of-opd ! (value ! 13 refl)) (from ! (stop !)) (init ! 24 refl (place-kind W .typed source is-source)) $
           -- `aim` is read
-          assigns ! (bin ! (value ! 54 refl) (lit ! tt) (lit< tt)) (from ! (stop !)) (store ! 30 refl (tt, record { fits = omega arith })) $
-          assigns ! (un ! (value ! 30 refl) (record { fits = omega arith })) (from ! (stop !)) (init ! 42 refl (tt, record { fits = omega arith })) $
-          assigns ! (bin ! (value ! 42 refl) (lit ! tt) (record { fits = omega arith })) (from ! (stop !)) (store ! 28 refl (tt, record { fits = omega arith })) $
-          assigns ! (addr ! (from ! (hop ! (look ! 58 refl) (fld ! refl (stop !))))) (from ! (stop !)) (init ! 20 refl (tt, tt)) $
-          assigns ! (bin ! (value ! 20 refl) (value ! 28 refl) tt) (from ! (stop !)) (init ! 18 refl (tt, tt)) $
-          assigns ! (of-opd ! (load ! (from ! (hop ! (look ! 18 refl) (stop !))) (look-part (place-kind W) ! 0 (of-place W b o h (dst % 16) low-dst) refl))) (from ! (stop !)) (store ! 22 refl (place-kind W .typed aim is-aim)) $
-          assigns ! (of-opd ! (value ! 22 refl)) (from ! (stop !)) (init ! 40 refl (place-kind W .typed aim is-aim)) $
+          assigns ! (bin ! (value ! 29 refl) (lit ! tt) (lit< tt)) (from ! (stop !)) (store ! 17 refl (tt, record { fits = omega arith })) $
+          assigns ! (un ! (value ! 17 refl) (record { fits = omega arith })) (from ! (stop !)) (init ! 23 refl (tt, record { fits = omega arith })) $
+          assigns ! (bin ! (value ! 23 refl) (lit ! tt) (record { fits = omega arith })) (from ! (stop !)) (store ! 16 refl (tt, record { fits = omega arith })) $
+          assigns ! (addr ! (from ! (hop ! (look ! 31 refl) (fld ! refl (stop !))))) (from ! (stop !)) (init ! 12 refl (tt, tt)) $
+          assigns ! (bin ! (value ! 12 refl) (value ! 16 refl) tt) (from ! (stop !)) (init ! 11 refl (tt, tt)) $
+          assigns ! (of-opd ! (load ! (from ! (hop ! (look ! 11 refl) (stop !))) (look-part (place-kind W) ! 0 (of-place W b o h (dst % 16) low-dst) refl))) (from ! (stop !)) (store ! 13 refl (place-kind W .typed aim is-aim)) $
+          assigns ! (of-opd ! (value ! 13 refl)) (from ! (stop !)) (init ! 22 refl (place-kind W .typed aim is-aim)) $
           -- `moved` is read
-          assigns ! (bin ! (value ! 52 refl) (lit ! tt) (lit< tt)) (from ! (stop !)) (store ! 30 refl (tt, record { fits = omega arith })) $
-          assigns ! (un ! (value ! 30 refl) (record { fits = omega arith })) (from ! (stop !)) (init ! 38 refl (tt, record { fits = omega arith })) $
-          assigns ! (bin ! (value ! 38 refl) (lit ! tt) (record { fits = omega arith })) (from ! (stop !)) (store ! 28 refl (tt, record { fits = omega arith })) $
-          assigns ! (addr ! (from ! (hop ! (look ! 58 refl) (fld ! refl (stop !))))) (from ! (stop !)) (init ! 16 refl (tt, tt)) $
-          assigns ! (bin ! (value ! 16 refl) (value ! 28 refl) tt) (from ! (stop !)) (init ! 14 refl (tt, tt)) $
-          assigns ! (of-opd ! (load ! (from ! (hop ! (look ! 14 refl) (stop !))) (look-part (transfer-kind W) ! 0 (of-transfer W b o h (t % 8) low-t) refl))) (from ! (stop !)) (init ! 12 refl (transfer-kind W .typed moved is-moved)) $
-          assigns ! (of-opd ! (value ! 12 refl)) (from ! (stop !)) (init ! 36 refl (transfer-kind W .typed moved is-moved)) $
+          assigns ! (bin ! (value ! 28 refl) (lit ! tt) (lit< tt)) (from ! (stop !)) (store ! 17 refl (tt, record { fits = omega arith })) $
+          assigns ! (un ! (value ! 17 refl) (record { fits = omega arith })) (from ! (stop !)) (init ! 21 refl (tt, record { fits = omega arith })) $
+          assigns ! (bin ! (value ! 21 refl) (lit ! tt) (record { fits = omega arith })) (from ! (stop !)) (store ! 16 refl (tt, record { fits = omega arith })) $
+          assigns ! (addr ! (from ! (hop ! (look ! 31 refl) (fld ! refl (stop !))))) (from ! (stop !)) (init ! 10 refl (tt, tt)) $
+          assigns ! (bin ! (value ! 10 refl) (value ! 16 refl) tt) (from ! (stop !)) (init ! 9 refl (tt, tt)) $
+          assigns ! (of-opd ! (load ! (from ! (hop ! (look ! 9 refl) (stop !))) (look-part (transfer-kind W) ! 0 (of-transfer W b o h (t % 8) low-t) refl))) (from ! (stop !)) (init ! 8 refl (transfer-kind W .typed moved is-moved)) $
+          assigns ! (of-opd ! (value ! 8 refl)) (from ! (stop !)) (init ! 20 refl (transfer-kind W .typed moved is-moved)) $
           move ! (62 ∷ 65 ∷ []) $ use2 W (raw (Steps 𝓤 H A at-mem run .pre (to v))) (asks v src-fits dst-fits t-fits is-v is-source is-aim is-moved) $
-          calls-at ! fm (Steps 𝓤 H A at-mem run) known-step (to v) (and-then ! (value ! 49 refl) (and-then ! (value ! 45 refl) (and-then ! (value ! 41 refl) (and-then ! (value ! 37 refl) (and-then ! (value ! 57 refl) (and-then ! (value ! 55 refl) (and-then ! (value ! 53 refl) (and-then ! (value ! 51 refl) (no-more !))))))))) (λ r. result ! step-kind (‵ (flft κ′ q′) ⊛ ‵ ftrue) (Says v) (Met v) (said v) (λ z met is.
+          calls-at ! fm (Steps 𝓤 H A at-mem run) known-step (to v) (and-then ! (value ! 27 refl) (and-then ! (value ! 25 refl) (and-then ! (value ! 23 refl) (and-then ! (value ! 21 refl) (and-then ! (value ! 31 refl) (and-then ! (value ! 30 refl) (and-then ! (value ! 29 refl) (and-then ! (value ! 28 refl) (no-more !))))))))) (λ r. result ! step-kind (‵ (flft κ′ q′) ⊛ ‵ ftrue) (Says v) (Met v) (said v) (λ z met is.
           -- [the slice's token; the book; the open borrow; ..]
-          land ! (from ! (stop !)) (init ! 35 refl (step-kind .typed z is)) $
+          land ! (from ! (stop !)) (init ! 20 refl (step-kind .typed z is)) $
           -- the source is stored
-          assigns ! (bin ! (value ! 47 refl) (lit ! tt) (record { fits = omega arith })) (from ! (stop !)) (store ! 29 refl (tt, record { fits = omega arith })) $
-          assigns ! (addr ! (from ! (hop ! (look ! 59 refl) (fld ! refl (stop !))))) (from ! (stop !)) (init ! 11 refl (tt, tt)) $
-          assigns ! (bin ! (value ! 11 refl) (value ! 29 refl) tt) (from ! (stop !)) (init ! 9 refl (tt, tt)) $
-          assigns ! (of-opd ! (load ! (from ! (fld ! refl (stop !))) (look-in ! 35 (sub ! 1 refl (whole !))))) (from ! (hop ! (look ! 9 refl) (stop !))) (store-part (place-kind W) ! 1 (to-place W b o h (src % 16) (z .place) low-src) (place-is z is) refl) $
+          assigns ! (bin ! (value ! 26 refl) (lit ! tt) (record { fits = omega arith })) (from ! (stop !)) (store ! 17 refl (tt, record { fits = omega arith })) $
+          assigns ! (addr ! (from ! (hop ! (look ! 32 refl) (fld ! refl (stop !))))) (from ! (stop !)) (init ! 8 refl (tt, tt)) $
+          assigns ! (bin ! (value ! 8 refl) (value ! 17 refl) tt) (from ! (stop !)) (init ! 7 refl (tt, tt)) $
+          assigns ! (of-opd ! (load ! (from ! (fld ! refl (stop !))) (look-in ! 20 (sub ! 1 refl (whole !))))) (from ! (hop ! (look ! 7 refl) (stop !))) (store-part (place-kind W) ! 1 (to-place W b o h (src % 16) (z .place) low-src) (place-is z is) refl) $
           -- the transfer is stored, and the set
-          assigns ! (bin ! (value ! 39 refl) (lit ! tt) (record { fits = omega arith })) (from ! (stop !)) (store ! 29 refl (tt, record { fits = omega arith })) $
-          assigns ! (addr ! (from ! (hop ! (look ! 59 refl) (fld ! refl (stop !))))) (from ! (stop !)) (init ! 7 refl (tt, tt)) $
-          assigns ! (bin ! (value ! 7 refl) (value ! 29 refl) tt) (from ! (stop !)) (init ! 5 refl (tt, tt)) $
-          assigns ! (of-opd ! (load ! (from ! (fld ! refl (stop !))) (look-in ! 35 (sub ! 2 refl (whole !))))) (from ! (hop ! (look ! 5 refl) (stop !))) (store-part (transfer-kind W) ! 1 (to-transfer W b o (placed z) (t % 8) (z .load) low-t) (load-is z is) refl) $
-          assigns ! (of-opd ! (load ! (from ! (fld ! refl (stop !))) (look-in ! 35 (sub ! 3 refl (whole !))))) (from ! (hop ! (look ! 59 refl) (fld ! refl (stop !)))) (store-part (number-kind W w8) ! 1 (to-pending W b o (loaded z) (z .pending)) (pending-is z is) refl) $
-          assigns ! (of-opd ! (load ! (from ! (fld ! refl (stop !))) (look-in ! 35 (sub ! 0 refl (whole !))))) (from ! (stop !)) (init ! 61 refl (answer-kind W .typed (z .answer) (answer-is z is))) $
+          assigns ! (bin ! (value ! 22 refl) (lit ! tt) (record { fits = omega arith })) (from ! (stop !)) (store ! 17 refl (tt, record { fits = omega arith })) $
+          assigns ! (addr ! (from ! (hop ! (look ! 32 refl) (fld ! refl (stop !))))) (from ! (stop !)) (init ! 6 refl (tt, tt)) $
+          assigns ! (bin ! (value ! 6 refl) (value ! 17 refl) tt) (from ! (stop !)) (init ! 5 refl (tt, tt)) $
+          assigns ! (of-opd ! (load ! (from ! (fld ! refl (stop !))) (look-in ! 20 (sub ! 2 refl (whole !))))) (from ! (hop ! (look ! 5 refl) (stop !))) (store-part (transfer-kind W) ! 1 (to-transfer W b o (placed z) (t % 8) (z .load) low-t) (load-is z is) refl) $
+          assigns ! (of-opd ! (load ! (from ! (fld ! refl (stop !))) (look-in ! 20 (sub ! 3 refl (whole !))))) (from ! (hop ! (look ! 32 refl) (fld ! refl (stop !)))) (store-part (number-kind W w8) ! 1 (to-pending W b o (loaded z) (z .pending)) (pending-is z is) refl) $
+          assigns ! (of-opd ! (load ! (from ! (fld ! refl (stop !))) (look-in ! 20 (sub ! 0 refl (whole !))))) (from ! (stop !)) (init ! 33 refl (answer-kind W .typed (z .answer) (answer-is z is))) $
           move ! (1 ∷ 2 ∷ 3 ∷ 4 ∷ []) $ close-ref ! tt (mem T.the-row) (left z) {b = b} {o = o} $
-          returns ! (look ! 60 refl) $ leaves ! 60 refl refl $ leaves ! 58 refl refl $ leaves ! 56 refl refl $ leaves ! 54 refl refl $ leaves ! 52 refl refl $ leaves ! 50 refl refl $ leaves ! 48 refl refl $ leaves ! 46 refl refl $ leaves ! 44 refl refl $ leaves ! 42 refl refl $ leaves ! 40 refl refl $ leaves ! 38 refl refl $ leaves ! 36 refl refl $ leaves ! 34 refl refl $ leaves ! 32 refl refl $ leaves ! 30 refl refl $ leaves ! 28 refl refl $ leaves ! 26 refl refl $ leaves ! 24 refl refl $ leaves ! 22 refl refl $ leaves ! 20 refl refl $ leaves ! 18 refl refl $ leaves ! 16 refl refl $ leaves ! 14 refl refl $ leaves ! 12 refl refl $ leaves ! 10 refl refl $ leaves ! 8 refl refl $ leaves ! 6 refl refl $ leaves ! 4 refl refl $ free0 ! $
+          returns ! (look ! 32 refl) $ move ! (32 ∷ 61 ∷ 31 ∷ 60 ∷ 30 ∷ 59 ∷ 29 ∷ 58 ∷ 28 ∷ 57 ∷ 27 ∷ 56 ∷ 26 ∷ 55 ∷ 25 ∷ 54 ∷ 24 ∷ 53 ∷ 23 ∷ 52 ∷ 22 ∷ 51 ∷ 21 ∷ 50 ∷ 20 ∷ 49 ∷ 19 ∷ 48 ∷ 18 ∷ 47 ∷ 17 ∷ 46 ∷ 16 ∷ 45 ∷ 15 ∷ 44 ∷ 14 ∷ 43 ∷ 13 ∷ 42 ∷ 12 ∷ 41 ∷ 11 ∷ 40 ∷ 10 ∷ 39 ∷ 9 ∷ 38 ∷ 8 ∷ 37 ∷ 7 ∷ 36 ∷ 6 ∷ 35 ∷ 5 ∷ 34 ∷ 4 ∷ 33 ∷ []) $ leaves ! $ leaves ! $ leaves ! $ leaves ! $ leaves ! $ leaves ! $ leaves ! $ leaves ! $ leaves ! $ leaves ! $ leaves ! $ leaves ! $ leaves ! $ leaves ! $ leaves ! $ leaves ! $ leaves ! $ leaves ! $ leaves ! $ leaves ! $ leaves ! $ leaves ! $ leaves ! $ leaves ! $ leaves ! $ leaves ! $ leaves ! $ leaves ! $ leaves ! $ free0 ! $
           keep ! (0 ∷ 1 ∷ 2 ∷ 3 ∷ 4 ∷ []) $ by ! (exits (z .answer) (left z) (met h e refl refl refl) (answer-is z is))))))))))))))))))))))))))))))))))))))
 
 module _ {M : Type 1} (𝓤 : URA M) (H : Heap 𝓤) (A : Atoms 𝓤) (W : Given 𝓤 H A) (at-mem : Memory → SProp 𝓤) (run : Routine → Fun 𝓤) where

@@ -167,45 +167,45 @@ module _ {M : Type 1} (𝓤 : URA M) (H : Heap 𝓤) (A : Atoms 𝓤) (W : Given
           enter ! C Λ code.function (vptr b o ∷ vint w8 t ∷ []) _ $
           alloc1 ! (λ l0. alloc1 ! (λ l1. alloc1 ! (λ l2. alloc1 ! (λ l3. alloc1 ! (λ l4. alloc1 ! (λ l5. alloc1 ! (λ l6. alloc1 ! (λ l7. alloc1 ! (λ l8. alloc1 ! (λ l9. alloc1 ! (λ l10. alloc1 ! (λ l11. alloc1 ! (λ l12. alloc1 ! (λ l13. alloc1 ! (λ l14. alloc1 ! (λ l15. alloc1 ! (λ l16. alloc1 ! (λ l17. alloc1 ! (λ l18. alloc1 ! (λ l19. alloc1 ! (λ l20. alloc1 ! (λ l21. alloc0 ! $ params1 ! $
           pass1 ! (init ! 40 refl (tt, tt)) $ pass1 ! (init ! 38 refl (tt, record { fits = t-fits })) $ pass0 ! $
-          move ! (44 ∷ 45 ∷ 46 ∷ []) $ open-ref ! tt (mem T.the-row) {b = b} {o = o} $
+          move ! (44 ∷ 45 ∷ 46 ∷ 0 ∷ 2 ∷ 4 ∷ 6 ∷ 8 ∷ 10 ∷ 12 ∷ 14 ∷ 16 ∷ 18 ∷ 20 ∷ 22 ∷ 24 ∷ 26 ∷ 28 ∷ 30 ∷ 32 ∷ 34 ∷ 36 ∷ 38 ∷ 40 ∷ 42 ∷ []) $ open-ref ! tt (mem T.the-row) {b = b} {o = o} $
           knows ! (book-kind W) (all-of W b o h) (λ was. knows ! (transfer-kind W) (of-transfer W b o h (t % 8) low-t) (λ is-moved. knows ! (place-kind W) (of-place W b o h (moved .to % 16) (mod-lt (moved .to) (lit< tt))) (λ is-held.
-          -- [the book; the open borrow; obs; auth; the locals, last first, each with its end]
-          assigns ! (of-opd ! (load ! (from ! (hop ! (look ! 44 refl) (stop !))) (look-part (book-kind W) ! 0 (all-of W b o h) refl))) (from ! (stop !)) (init ! 28 refl (book-kind W .typed h was)) $
-          surveys W at-mem run h ! fm known-survey was (and-then ! (value ! 29 refl) (no-more !)) (λ v e is-v.
-          land ! (from ! (stop !)) (init ! 40 refl (survey-kind W .typed v is-v)) $
+          -- [the book; the open borrow; obs; auth; the locals, last first; their ends]
+          assigns ! (of-opd ! (load ! (from ! (hop ! (look ! 24 refl) (stop !))) (look-part (book-kind W) ! 0 (all-of W b o h) refl))) (from ! (stop !)) (init ! 16 refl (book-kind W .typed h was)) $
+          surveys W at-mem run h ! fm known-survey was (and-then ! (value ! 17 refl) (no-more !)) (λ v e is-v.
+          land ! (from ! (stop !)) (init ! 22 refl (survey-kind W .typed v is-v)) $
           -- `moved` is read
-          assigns ! (bin ! (value ! 42 refl) (lit ! tt) (lit< tt)) (from ! (stop !)) (init ! 26 refl (tt, record { fits = omega arith })) $
-          assigns ! (un ! (value ! 26 refl) (record { fits = omega arith })) (from ! (stop !)) (init ! 38 refl (tt, record { fits = omega arith })) $
-          assigns ! (bin ! (value ! 38 refl) (lit ! tt) (record { fits = omega arith })) (from ! (stop !)) (init ! 24 refl (tt, record { fits = omega arith })) $
-          assigns ! (addr ! (from ! (hop ! (look ! 44 refl) (fld ! refl (stop !))))) (from ! (stop !)) (init ! 22 refl (tt, tt)) $
-          assigns ! (bin ! (value ! 22 refl) (value ! 24 refl) tt) (from ! (stop !)) (init ! 20 refl (tt, tt)) $
-          assigns ! (of-opd ! (load ! (from ! (hop ! (look ! 20 refl) (stop !))) (look-part (transfer-kind W) ! 0 (of-transfer W b o h (t % 8) low-t) refl))) (from ! (stop !)) (init ! 18 refl (transfer-kind W .typed moved is-moved)) $
-          assigns ! (of-opd ! (value ! 18 refl)) (from ! (stop !)) (init ! 36 refl (transfer-kind W .typed moved is-moved)) $
+          assigns ! (bin ! (value ! 23 refl) (lit ! tt) (lit< tt)) (from ! (stop !)) (init ! 15 refl (tt, record { fits = omega arith })) $
+          assigns ! (un ! (value ! 15 refl) (record { fits = omega arith })) (from ! (stop !)) (init ! 21 refl (tt, record { fits = omega arith })) $
+          assigns ! (bin ! (value ! 21 refl) (lit ! tt) (record { fits = omega arith })) (from ! (stop !)) (init ! 14 refl (tt, record { fits = omega arith })) $
+          assigns ! (addr ! (from ! (hop ! (look ! 24 refl) (fld ! refl (stop !))))) (from ! (stop !)) (init ! 13 refl (tt, tt)) $
+          assigns ! (bin ! (value ! 13 refl) (value ! 14 refl) tt) (from ! (stop !)) (init ! 12 refl (tt, tt)) $
+          assigns ! (of-opd ! (load ! (from ! (hop ! (look ! 12 refl) (stop !))) (look-part (transfer-kind W) ! 0 (of-transfer W b o h (t % 8) low-t) refl))) (from ! (stop !)) (init ! 11 refl (transfer-kind W .typed moved is-moved)) $
+          assigns ! (of-opd ! (value ! 11 refl)) (from ! (stop !)) (init ! 20 refl (transfer-kind W .typed moved is-moved)) $
           -- `held` is read
-          assigns ! (bin ! (load ! (from ! (fld ! refl (stop !))) (look-in ! 36 (sub ! 1 refl (whole !)))) (lit ! tt) (lit< tt)) (from ! (stop !)) (store ! 26 refl (tt, record { fits = omega arith })) $
-          assigns ! (un ! (value ! 26 refl) (record { fits = omega arith })) (from ! (stop !)) (init ! 34 refl (tt, record { fits = omega arith })) $
-          assigns ! (bin ! (value ! 34 refl) (lit ! tt) (record { fits = omega arith })) (from ! (stop !)) (store ! 24 refl (tt, record { fits = omega arith })) $
-          assigns ! (addr ! (from ! (hop ! (look ! 44 refl) (fld ! refl (stop !))))) (from ! (stop !)) (init ! 16 refl (tt, tt)) $
-          assigns ! (bin ! (value ! 16 refl) (value ! 24 refl) tt) (from ! (stop !)) (init ! 14 refl (tt, tt)) $
-          assigns ! (of-opd ! (load ! (from ! (hop ! (look ! 14 refl) (stop !))) (look-part (place-kind W) ! 0 (of-place W b o h (moved .to % 16) (mod-lt (moved .to) (lit< tt))) refl))) (from ! (stop !)) (init ! 12 refl (place-kind W .typed held is-held)) $
-          assigns ! (of-opd ! (value ! 12 refl)) (from ! (stop !)) (init ! 32 refl (place-kind W .typed held is-held)) $
+          assigns ! (bin ! (load ! (from ! (fld ! refl (stop !))) (look-in ! 20 (sub ! 1 refl (whole !)))) (lit ! tt) (lit< tt)) (from ! (stop !)) (store ! 15 refl (tt, record { fits = omega arith })) $
+          assigns ! (un ! (value ! 15 refl) (record { fits = omega arith })) (from ! (stop !)) (init ! 19 refl (tt, record { fits = omega arith })) $
+          assigns ! (bin ! (value ! 19 refl) (lit ! tt) (record { fits = omega arith })) (from ! (stop !)) (store ! 14 refl (tt, record { fits = omega arith })) $
+          assigns ! (addr ! (from ! (hop ! (look ! 24 refl) (fld ! refl (stop !))))) (from ! (stop !)) (init ! 10 refl (tt, tt)) $
+          assigns ! (bin ! (value ! 10 refl) (value ! 14 refl) tt) (from ! (stop !)) (init ! 9 refl (tt, tt)) $
+          assigns ! (of-opd ! (load ! (from ! (hop ! (look ! 9 refl) (stop !))) (look-part (place-kind W) ! 0 (of-place W b o h (moved .to % 16) (mod-lt (moved .to) (lit< tt))) refl))) (from ! (stop !)) (init ! 8 refl (place-kind W .typed held is-held)) $
+          assigns ! (of-opd ! (value ! 8 refl)) (from ! (stop !)) (init ! 18 refl (place-kind W .typed held is-held)) $
           use0 W (raw (Steps 𝓤 H A at-mem run .pre (to v))) (asks v t-fits is-v is-held is-moved) $
-          calls-at ! fm (Steps 𝓤 H A at-mem run) known-step (to v) (and-then ! (value ! 41 refl) (and-then ! (value ! 33 refl) (and-then ! (value ! 37 refl) (and-then ! (value ! 43 refl) (no-more !))))) (λ r. result ! step-kind (‵ ftrue) (Says v) (Met v) (said v) (λ z met is.
-          drop ! $ land ! (from ! (stop !)) (init ! 30 refl (step-kind .typed z is)) $
+          calls-at ! fm (Steps 𝓤 H A at-mem run) known-step (to v) (and-then ! (value ! 23 refl) (and-then ! (value ! 19 refl) (and-then ! (value ! 21 refl) (and-then ! (value ! 24 refl) (no-more !))))) (λ r. result ! step-kind (‵ ftrue) (Says v) (Met v) (said v) (λ z met is.
+          drop ! $ land ! (from ! (stop !)) (init ! 17 refl (step-kind .typed z is)) $
           -- the destination is stored
-          assigns ! (bin ! (value ! 34 refl) (lit ! tt) (record { fits = omega arith })) (from ! (stop !)) (store ! 24 refl (tt, record { fits = omega arith })) $
-          assigns ! (addr ! (from ! (hop ! (look ! 44 refl) (fld ! refl (stop !))))) (from ! (stop !)) (init ! 10 refl (tt, tt)) $
-          assigns ! (bin ! (value ! 10 refl) (value ! 24 refl) tt) (from ! (stop !)) (init ! 8 refl (tt, tt)) $
-          assigns ! (of-opd ! (load ! (from ! (fld ! refl (stop !))) (look-in ! 30 (sub ! 1 refl (whole !))))) (from ! (hop ! (look ! 8 refl) (stop !))) (store-part (place-kind W) ! 0 (to-place W b o h (moved .to % 16) (z .place) (mod-lt (moved .to) (lit< tt))) (place-is z is) refl) $
+          assigns ! (bin ! (value ! 19 refl) (lit ! tt) (record { fits = omega arith })) (from ! (stop !)) (store ! 14 refl (tt, record { fits = omega arith })) $
+          assigns ! (addr ! (from ! (hop ! (look ! 24 refl) (fld ! refl (stop !))))) (from ! (stop !)) (init ! 7 refl (tt, tt)) $
+          assigns ! (bin ! (value ! 7 refl) (value ! 14 refl) tt) (from ! (stop !)) (init ! 6 refl (tt, tt)) $
+          assigns ! (of-opd ! (load ! (from ! (fld ! refl (stop !))) (look-in ! 17 (sub ! 1 refl (whole !))))) (from ! (hop ! (look ! 6 refl) (stop !))) (store-part (place-kind W) ! 0 (to-place W b o h (moved .to % 16) (z .place) (mod-lt (moved .to) (lit< tt))) (place-is z is) refl) $
           -- the transfer is stored, and the set
-          assigns ! (bin ! (value ! 38 refl) (lit ! tt) (record { fits = omega arith })) (from ! (stop !)) (store ! 24 refl (tt, record { fits = omega arith })) $
-          assigns ! (addr ! (from ! (hop ! (look ! 44 refl) (fld ! refl (stop !))))) (from ! (stop !)) (init ! 6 refl (tt, tt)) $
-          assigns ! (bin ! (value ! 6 refl) (value ! 24 refl) tt) (from ! (stop !)) (init ! 4 refl (tt, tt)) $
-          assigns ! (of-opd ! (load ! (from ! (fld ! refl (stop !))) (look-in ! 30 (sub ! 2 refl (whole !))))) (from ! (hop ! (look ! 4 refl) (stop !))) (store-part (transfer-kind W) ! 0 (to-transfer W b o (placed z) (t % 8) (z .load) low-t) (load-is z is) refl) $
-          assigns ! (of-opd ! (load ! (from ! (fld ! refl (stop !))) (look-in ! 30 (sub ! 3 refl (whole !))))) (from ! (hop ! (look ! 44 refl) (fld ! refl (stop !)))) (store-part (number-kind W w8) ! 0 (to-pending W b o (loaded z) (z .pending)) (pending-is z is) refl) $
-          assigns ! (of-opd ! (load ! (from ! (fld ! refl (stop !))) (look-in ! 30 (sub ! 0 refl (whole !))))) (from ! (stop !)) (init ! 46 refl (answer-kind W .typed (z .answer) (answer-is z is))) $
+          assigns ! (bin ! (value ! 21 refl) (lit ! tt) (record { fits = omega arith })) (from ! (stop !)) (store ! 14 refl (tt, record { fits = omega arith })) $
+          assigns ! (addr ! (from ! (hop ! (look ! 24 refl) (fld ! refl (stop !))))) (from ! (stop !)) (init ! 5 refl (tt, tt)) $
+          assigns ! (bin ! (value ! 5 refl) (value ! 14 refl) tt) (from ! (stop !)) (init ! 4 refl (tt, tt)) $
+          assigns ! (of-opd ! (load ! (from ! (fld ! refl (stop !))) (look-in ! 17 (sub ! 2 refl (whole !))))) (from ! (hop ! (look ! 4 refl) (stop !))) (store-part (transfer-kind W) ! 0 (to-transfer W b o (placed z) (t % 8) (z .load) low-t) (load-is z is) refl) $
+          assigns ! (of-opd ! (load ! (from ! (fld ! refl (stop !))) (look-in ! 17 (sub ! 3 refl (whole !))))) (from ! (hop ! (look ! 24 refl) (fld ! refl (stop !)))) (store-part (number-kind W w8) ! 0 (to-pending W b o (loaded z) (z .pending)) (pending-is z is) refl) $
+          assigns ! (of-opd ! (load ! (from ! (fld ! refl (stop !))) (look-in ! 17 (sub ! 0 refl (whole !))))) (from ! (stop !)) (init ! 25 refl (answer-kind W .typed (z .answer) (answer-is z is))) $
           close-ref ! tt (mem T.the-row) (left z) {b = b} {o = o} $
-          returns ! (look ! 45 refl) $ leaves ! 45 refl refl $ leaves ! 43 refl refl $ leaves ! 41 refl refl $ leaves ! 39 refl refl $ leaves ! 37 refl refl $ leaves ! 35 refl refl $ leaves ! 33 refl refl $ leaves ! 31 refl refl $ leaves ! 29 refl refl $ leaves ! 27 refl refl $ leaves ! 25 refl refl $ leaves ! 23 refl refl $ leaves ! 21 refl refl $ leaves ! 19 refl refl $ leaves ! 17 refl refl $ leaves ! 15 refl refl $ leaves ! 13 refl refl $ leaves ! 11 refl refl $ leaves ! 9 refl refl $ leaves ! 7 refl refl $ leaves ! 5 refl refl $ leaves ! 3 refl refl $ free0 ! $
+          returns ! (look ! 24 refl) $ move ! (24 ∷ 46 ∷ 23 ∷ 45 ∷ 22 ∷ 44 ∷ 21 ∷ 43 ∷ 20 ∷ 42 ∷ 19 ∷ 41 ∷ 18 ∷ 40 ∷ 17 ∷ 39 ∷ 16 ∷ 38 ∷ 15 ∷ 37 ∷ 14 ∷ 36 ∷ 13 ∷ 35 ∷ 12 ∷ 34 ∷ 11 ∷ 33 ∷ 10 ∷ 32 ∷ 9 ∷ 31 ∷ 8 ∷ 30 ∷ 7 ∷ 29 ∷ 6 ∷ 28 ∷ 5 ∷ 27 ∷ 4 ∷ 26 ∷ 3 ∷ 25 ∷ []) $ leaves ! $ leaves ! $ leaves ! $ leaves ! $ leaves ! $ leaves ! $ leaves ! $ leaves ! $ leaves ! $ leaves ! $ leaves ! $ leaves ! $ leaves ! $ leaves ! $ leaves ! $ leaves ! $ leaves ! $ leaves ! $ leaves ! $ leaves ! $ leaves ! $ leaves ! $ free0 ! $
           keep ! (0 ∷ 1 ∷ 2 ∷ []) $ by ! (exits (z .answer) (left z) (met h e refl refl) (answer-is z is))))))))))))))))))))))))))))))
 
 module _ {M : Type 1} (𝓤 : URA M) (H : Heap 𝓤) (A : Atoms 𝓤) (W : Given 𝓤 H A) (at-mem : Memory → SProp 𝓤) (run : Routine → Fun 𝓤) where
