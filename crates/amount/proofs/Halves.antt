@@ -1,4 +1,4 @@
--- Laws of the definitions of `specs/Value.antt`: which answer a fact on halves leads to.
+-- Laws of the definitions of `specs/Numbers.antt`: which answer a fact on halves leads to.
 use Prim.Native.Nat.{ℕ, _+_, _-_, _*_, _/_, _%_, _^_, _<_, _≤_}
 use mathlib.Core.Path.{_≡_, refl, ap, sym, _∙_}
 use lib.Dec.{ltb, leb, eqb, lit<}

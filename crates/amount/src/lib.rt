@@ -109,9 +109,9 @@ impl Amount {
             return left.cmp(right);
         }
         if self.scale < other.scale {
-            return beside(left, reduce(right, other.scale - self.scale));
+            return beside(left, right, other.scale - self.scale);
         }
-        reverse(beside(right, reduce(left, self.scale - other.scale)))
+        reverse(beside(right, left, self.scale - other.scale))
     }
 
     // The lesser by value; on a tie `other`.
@@ -299,10 +299,11 @@ fn reduce_by(r: Reduced, places: u8) -> Reduced
     }
 }
 
-// How a mantissa stands to one that was divided by a power of ten.
-fn beside(mantissa: Uint128, r: Reduced) -> Ordering
-    ensures { λ o. ⌜ ((n d : ℕ) → ReducedBy n d r → o ≡ orderOf (val mantissa * 10 ^ d) n) ⌝ }
+// How a mantissa stands to one of a scale that is `places` larger.
+fn beside(mantissa: Uint128, finer: Uint128, places: u8) -> Ordering
+    ensures { λ o. ⌜ o ≡ orderOf (val mantissa * 10 ^ places) (val finer) ⌝ }
 {
+    let r = reduce(finer, places);
     match mantissa.cmp(r.quotient) {
         Ordering::Less => Ordering::Less,
         Ordering::Equal => {
