@@ -1,4 +1,4 @@
--- Laws of the definitions of `specs/Value.antt`: which answer a fact on halves leads to.
+-- Laws of the definitions of `specs/Numbers.antt`: which answer a fact on halves leads to.
 use Prim.Native.Nat.{ℕ, _+_, _-_, _*_, _/_, _%_, _^_, _<_, _≤_}
 use mathlib.Core.Path.{_≡_, refl, ap, sym, _∙_}
 use lib.Dec.{ltb, leb, eqb, lit<}
@@ -268,3 +268,13 @@ order-is a b e = rw e (order-fact a b)
 
 pub division-val : {x : Division} (n d : ℕ) → x ≡ divisionOf n d → val (x .quotient) ≡ n / d
 division-val n d e = rw (e, division-quotient n d) (val-halves (n / d))
+
+pub division-left : {x : Division} (n d : ℕ) → x ≡ divisionOf n d → x .rest ≡ n % d
+division-left n d e = rw (e, division-rest n d)
+
+-- a word divided
+pub word-quotient : (x : Uint128) (d : ℕ) → x .hi ≡ 0 → val (record { hi = 0; lo = x .lo / d }) ≡ val x / d
+word-quotient x d z = sym (val-zero (record { hi = 0; lo = x .lo / d }) refl) ∙ ap (λ (n : ℕ). n / d) (val-zero x z)
+
+pub word-rest : (x : Uint128) (d : ℕ) → x .hi ≡ 0 → x .lo % d ≡ val x % d
+word-rest x d z = ap (λ (n : ℕ). n % d) (val-zero x z)

@@ -1,20 +1,19 @@
 -- Laws of scaling by powers of ten: a quotient with what is left, and the order that it shows.
 use Prim.Native.Nat.{ℕ, _+_, _-_, _*_, _/_, _%_, _^_, _<_, _≤_}
-use mathlib.Core.Path.{_≡_, ap, sym, _∙_}
+use mathlib.Core.Path.{_≡_, refl, ap, sym, _∙_}
 use mathlib.Core.Bool.{Bool, true, false}
 use native.Mathlib.Numerals.{add-one}
 use native.Mathlib.Omega.{arith}
-use native.Mathlib.Nat.{pow-suc, one-le-pow, div-div-eq-div-mul, div-one, mod-one, div-add-mod', mod-lt, mul-le-mul-right, mul-lt-mul-of-pos-right, mul-assoc, mul-comm, add-mul, sub-add-cancel, lt-of-lt-of-le, pow-le-pow-right, div-eq-of-lt, mod-eq-of-lt}
+use native.Mathlib.Nat.{pow-suc, one-le-pow, div-div-eq-div-mul, div-one, mod-one, div-add-mod', mod-lt, mul-le-mul-right, mul-lt-mul-of-pos-right, mul-assoc, mul-comm, add-mul, sub-add-cancel, lt-of-lt-of-le, lt-of-le-of-lt, le-trans, pow-le-pow-right, div-eq-of-lt, mod-eq-of-lt}
 use borrow.Author.Tests.{ne-eqb, eqb-true, eqb-false, not-true, not-false}
 use lib.Arith.{mod-mul, lt-of-le-ne}
 use lib.Pow.{pow-add}
-use lib.Dec.{eqb}
-use Rattle.amount.specs.Numbers.{val, orderOf, divisionOf}
+use lib.Dec.{eqb, lit<, lit≤}
+use Rattle.amount.specs.Numbers.{val, orderOf}
 use Rattle.amount.specs.declared.uint128.Uint128.{Uint128}
-use Rattle.amount.specs.declared.uint128.Division.{Division}
 use Rattle.amount.specs.declared.uint128.Ordering.{Ordering}
 use Rattle.amount.specs.declared.uint128.Ordering.the-variants.{Less, Equal, Greater}
-use Rattle.amount.proofs.Halves.{order-less, order-equal, order-greater, order-fact, OrderFact, division-quotient, division-rest, val-halves}
+use Rattle.amount.proofs.Halves.{order-less, order-equal, order-greater, order-fact, OrderFact, val-zero}
 use Rattle.amount.specs.Amounts.{ReducedBy, reverseOf, compareOf}
 use Rattle.amount.specs.declared.Reduced.{Reduced}
 use Rattle.amount.specs.declared.Amount.{Amount}
@@ -39,27 +38,50 @@ tail : (n j k : ℕ) → n % 10 ^ (j + k) ≡ n / 10 ^ j % 10 ^ k * 10 ^ j + n %
 tail n j k =
     rw (pow-add 10 j k, mul-comm (10 ^ j) (10 ^ k)) (mod-mul n {m = 10 ^ k} {c = 10 ^ j} (ten-pos k) (ten-pos j))
 
--- k places more
-module _ {n j : ℕ} {r : Reduced} (h : ReducedBy n j r) (k : ℕ) (d : Division) (e : d ≡ divisionOf (val (r .quotient)) (10 ^ k)) where
-  next-quotient : val (d .quotient) ≡ n / 10 ^ (j + k)
-  next-quotient =
-      rw (e, division-quotient (val (r .quotient)) (10 ^ k), val-halves (val (r .quotient) / 10 ^ k), h .quotient, div-div-eq-div-mul n (10 ^ j) (10 ^ k), ← pow-add 10 j k)
+-- a quotient, of no place and of k places more
+pub quotient-start : (n k : ℕ) → k ≡ 0 → n ≡ n / 10 ^ k
+quotient-start n k e = rw e (sym (div-one n))
 
-  next-rest : d .rest ≡ n / 10 ^ j % 10 ^ k
-  next-rest = rw (e, division-rest (val (r .quotient)) (10 ^ k), h .quotient)
+pub quotient-more : {q : ℕ} (n j k p : ℕ) → p ≡ j + k → q ≡ n / 10 ^ j → q / 10 ^ k ≡ n / 10 ^ p
+quotient-more n j k p h e = rw (e, h, div-div-eq-div-mul n (10 ^ j) (10 ^ k), ← pow-add 10 j k)
 
-  pub reduce-exact : d .rest ≡ 0 → ReducedBy n (j + k) (record { quotient = d .quotient; rest = r .rest })
+-- k places more, by a quotient q and what is left, x
+module _ {n j : ℕ} {r : Reduced} (h : ReducedBy n j r) (k : ℕ) (q : Uint128) (x : ℕ) (e : val q ≡ val (r .quotient) / 10 ^ k) (f : x ≡ val (r .quotient) % 10 ^ k) where
+  next-quotient : val q ≡ n / 10 ^ (j + k)
+  next-quotient = e ∙ quotient-more n j k (j + k) refl (h .quotient)
+
+  next-rest : x ≡ n / 10 ^ j % 10 ^ k
+  next-rest = f ∙ rw (h .quotient)
+
+  pub reduce-exact : x ≡ 0 → ReducedBy n (j + k) (record { quotient = q; rest = r .rest })
   reduce-exact z =
-      let f : n / 10 ^ j % 10 ^ k ≡ 0 = sym next-rest ∙ z in
-      let g : n % 10 ^ (j + k) ≡ n % 10 ^ j = tail n j k ∙ rw f (omega arith) in
+      let d : n / 10 ^ j % 10 ^ k ≡ 0 = sym next-rest ∙ z in
+      let g : n % 10 ^ (j + k) ≡ n % 10 ^ j = tail n j k ∙ rw d (omega arith) in
       record { quotient = next-quotient; rest = rw g (h .rest) }
 
-  pub reduce-rest : (d .rest ≡ 0 → ⊥) → ReducedBy n (j + k) (record { quotient = d .quotient; rest = true })
+  pub reduce-rest : (x ≡ 0 → ⊥) → ReducedBy n (j + k) (record { quotient = q; rest = true })
   reduce-rest z =
       let p : 1 ≤ n / 10 ^ j % 10 ^ k = omega (arith, next-rest) in
-      let q : 1 * 10 ^ j ≤ n / 10 ^ j % 10 ^ k * 10 ^ j = mul-le-mul-right (10 ^ j) p in
+      let b : 1 * 10 ^ j ≤ n / 10 ^ j % 10 ^ k * 10 ^ j = mul-le-mul-right (10 ^ j) p in
       let g : n % 10 ^ (j + k) ≡ 0 → ⊥ = λ w. omega (arith, tail n j k, ten-pos j) in
       record { quotient = next-quotient; rest = rw (ne-eqb (n % 10 ^ (j + k)) 0 g) }
+
+pub nine-fit : (k : ℕ) → k ≤ 9 → 10 ^ k < 2 ^ 32
+nine-fit k h = lt-of-le-of-lt (pow-le-pow-right {n = 10} (omega arith) h) (lit< tt)
+
+-- a word has no digit from the twentieth place on
+module _ (x : Uint128) (k : ℕ) (z : x .hi ≡ 0) (f : x .lo < 2 ^ 64) (h : 19 < k) where
+  word-below : val x < 10 ^ k
+  word-below =
+      let t : 2 ^ 64 ≤ 10 ^ 20 = lit≤ tt in
+      let l : 20 ≤ k = omega arith in
+      rw (← val-zero x z) (lt-of-lt-of-le f (le-trans t (pow-le-pow-right {n = 10} (omega arith) l)))
+
+  pub word-none : val (record { hi = 0; lo = 0 }) ≡ val x / 10 ^ k
+  word-none = sym (val-zero (record { hi = 0; lo = 0 }) refl) ∙ sym (div-eq-of-lt word-below)
+
+  pub word-all : x .lo ≡ val x % 10 ^ k
+  word-all = val-zero x z ∙ sym (mod-eq-of-lt word-below)
 
 -- how m · 10^d stands to n, by n / 10^d and what is left
 module _ {n d : ℕ} {r : Reduced} (h : ReducedBy n d r) (m : ℕ) where
@@ -123,14 +145,3 @@ compare-reversed a b = order-reversed _ _
 -- counting the places down
 pub places-none : {n p k : ℕ} {r : Reduced} → p ≡ k → ReducedBy n k r → ReducedBy n p r
 places-none e h = rw e h
-
--- nothing is left to divide
-pub reduce-none : {n j : ℕ} {r : Reduced} {t : Bool} (p : ℕ) → j ≤ p → ReducedBy n j r → t ≡ eqb (val (r .quotient)) 0 → t ≡ true → ReducedBy n p r
-reduce-none {n} {j} {r} p l h f g =
-    let z : n / 10 ^ j ≡ 0 = sym (h .quotient) ∙ eqb-true _ _ (sym f ∙ g) in
-    let s : n < 10 ^ j = omega (arith, rw z at (div-add-mod' n (10 ^ j)), mod-lt n (ten-pos j)) in
-    let b : n < 10 ^ p = lt-of-lt-of-le s (pow-le-pow-right {n = 10} (omega arith) l) in
-    record {
-      quotient = h .quotient ∙ z ∙ sym (div-eq-of-lt b);
-      rest = h .rest ∙ rw (mod-eq-of-lt s, mod-eq-of-lt b);
-    }

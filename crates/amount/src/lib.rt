@@ -1,7 +1,7 @@
 // Exact decimal amounts: a mantissa of 128 bits and a scale, the port of amount.rs.
 // The value is mantissa / 10^scale. Every scale of a byte is taken; the Rust's constructors stop at 18.
 ghost use mathlib.Core.Path.{_≡_};
-ghost use Prim.Native.Nat.{ℕ, _+_, _*_, _^_, _≤_, max, min};
+ghost use Prim.Native.Nat.{ℕ, _+_, _*_, _/_, _%_, _^_, _≤_, max, min};
 ghost use lib.Dec.{eqb};
 ghost use lib.ListN.{length};
 ghost use Rattle.amount.specs.Numbers.{val, checked, orderOf};
@@ -89,7 +89,7 @@ impl Amount {
             let Word::Number(word) = word_of(&text[i..end]) else {
                 return AmountResult::NotWhole;
             };
-            let power = power_of_ten((end - i) as u8);
+            let power = power_of_ten((end - i) as u8) as u32;
             let Checked::Some(next) = times_plus(mantissa, power, word as u32) else {
                 return AmountResult::NotWhole;
             };
@@ -109,9 +109,9 @@ impl Amount {
             return left.cmp(right);
         }
         if self.scale < other.scale {
-            return beside(left, reduce(right, other.scale - self.scale));
+            return beside(left, right, other.scale - self.scale);
         }
-        reverse(beside(right, reduce(left, self.scale - other.scale)))
+        reverse(beside(right, left, self.scale - other.scale))
     }
 
     // The lesser by value; on a tie `other`.
@@ -269,15 +269,14 @@ fn reduce(mantissa: Uint128, places: u8) -> Reduced
         rest: false,
     };
     let mut left = places;
-    while 9 < left {
-        let quotient = r.quotient;
-        if quotient.is_zero() {
-            return r;
+    while 0 < r.quotient.hi {
+        if left <= 9 {
+            return reduce_by(r, left);
         }
         r = reduce_by(r, 9);
         left -= 9;
     }
-    reduce_by(r, left)
+    reduce_word(r, left)
 }
 
 // At most nine places more: 10^9 is below 2^32.
@@ -285,9 +284,32 @@ fn reduce_by(r: Reduced, places: u8) -> Reduced
     requires { ⌜ places ≤ 9 ⌝ }
     ensures { λ s. ⌜ ((n j : ℕ) → ReducedBy n j r → ReducedBy n (j + places) s) ⌝ }
 {
-    let d = divide(r.quotient, power_of_ten(places));
-    let quotient = d.quotient;
-    if d.rest == 0 {
+    let d = divide(r.quotient, power_of_ten(places) as u32);
+    reduced_to(r, d.quotient, d.rest as u64)
+}
+
+// Any number of places more of a word, which has at most 20 digits.
+fn reduce_word(r: Reduced, places: u8) -> Reduced
+    requires { ⌜ r .quotient .hi ≡ 0 ⌝ }
+    ensures { λ s. ⌜ ((n j : ℕ) → ReducedBy n j r → ReducedBy n (j + places) s) ⌝ }
+{
+    let word = r.quotient.lo;
+    if 19 < places {
+        return reduced_to(r, Uint128::ZERO, word);
+    }
+    let power = power_of_ten(places);
+    let quotient = Uint128 {
+        hi: 0,
+        lo: word / power,
+    };
+    reduced_to(r, quotient, word % power)
+}
+
+// One division more: its quotient, and what it left.
+fn reduced_to(r: Reduced, quotient: Uint128, left: u64) -> Reduced
+    ensures { λ s. ⌜ ((n j k : ℕ) → ReducedBy n j r → val quotient ≡ val (r .quotient) / 10 ^ k → left ≡ val (r .quotient) % 10 ^ k → ReducedBy n (j + k) s) ⌝ }
+{
+    if left == 0 {
         return Reduced {
             quotient,
             rest: r.rest,
@@ -299,10 +321,11 @@ fn reduce_by(r: Reduced, places: u8) -> Reduced
     }
 }
 
-// How a mantissa stands to one that was divided by a power of ten.
-fn beside(mantissa: Uint128, r: Reduced) -> Ordering
-    ensures { λ o. ⌜ ((n d : ℕ) → ReducedBy n d r → o ≡ orderOf (val mantissa * 10 ^ d) n) ⌝ }
+// How a mantissa stands to one of a scale that is `places` larger.
+fn beside(mantissa: Uint128, finer: Uint128, places: u8) -> Ordering
+    ensures { λ o. ⌜ o ≡ orderOf (val mantissa * 10 ^ places) (val finer) ⌝ }
 {
+    let r = reduce(finer, places);
     match mantissa.cmp(r.quotient) {
         Ordering::Less => Ordering::Less,
         Ordering::Equal => {

@@ -1,14 +1,14 @@
 // The canonical decimal text of an amount.
 ghost use mathlib.Core.Path.{_≡_};
 ghost use mathlib.Core.List.{List, _++_};
-ghost use Prim.Native.Nat.{ℕ, _-_, _≤_};
+ghost use Prim.Native.Nat.{ℕ, _-_, _/_, _^_, _≤_};
 ghost use lib.ListN.{length};
 ghost use Rattle.amount.specs.Numbers.{val};
 ghost use Rattle.amount.specs.Canonical.{strip, widthOf, lastDigits, zeros, textOf, canonicalText};
 use super::Amount;
-use super::reduce;
 use super::uint128::Uint128;
 use super::uint128::divide;
+use super::uint128::power_of_ten;
 
 // A text: its first `len` bytes. The others are 0.
 #[repr(C)]
@@ -33,8 +33,7 @@ impl Amount {
             };
         }
         let scale = a.scale as usize;
-        let r = reduce(mantissa, a.scale);
-        let whole = r.quotient;
+        let whole = whole_part(mantissa, a.scale);
         let digits = width(whole);
         let len = digits + 1 + scale;
         put_digits(&mut bytes, len, scale, mantissa);
@@ -45,6 +44,21 @@ impl Amount {
             len: len as u16,
         }
     }
+}
+
+// A mantissa without its last `places` digits.
+fn whole_part(mantissa: Uint128, places: u8) -> Uint128
+    ensures { λ r. ⌜ val r ≡ val mantissa / 10 ^ places ⌝ }
+{
+    let mut number = mantissa;
+    let mut left = places;
+    while 9 < left {
+        let d = divide(number, 1_000_000_000);
+        number = d.quotient;
+        left -= 9;
+    }
+    let d = divide(number, power_of_ten(left) as u32);
+    d.quotient
 }
 
 // The same value with no trailing zero after the point.

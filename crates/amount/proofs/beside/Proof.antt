@@ -5,6 +5,9 @@ use borrow.Author.Needs.{needs}
 use Rattle.amount.proofs.beside.Statement.{statement}
 use Rattle.amount.proofs.beside.Tie as tie
 
+reduce-requires : tie.Need-reduce-requires
+reduce-requires c κs = search needs
+
 cmp-requires : tie.Need-cmp-requires
 cmp-requires c κs = search needs
 
@@ -16,27 +19,28 @@ enum-told-2 c = search needs
 
 returns : tie.Need-returns
 returns c =
-    λ n d h. beside-rest h _ (order-is _ _ (sym (c .before .enum-told2 .given .1) ∙ c .before .before .before .cmp .ensures)) (c .if1 .taken)
+    beside-rest (c .before .before .before .before .reduce .ensures) _ (order-is _ _ (sym (c .before .enum-told2 .given .1) ∙ c .before .before .before .cmp .ensures)) (c .if1 .taken)
 
 enum-told-3 : tie.Need-enum-told-3
 enum-told-3 c = search needs
 
 returns-2 : tie.Need-returns-2
 returns-2 c =
-    λ n d h. beside-less h _ (order-is _ _ (sym (c .enum-told .given .1) ∙ c .before .before .cmp .ensures))
+    beside-less (c .before .before .before .reduce .ensures) _ (order-is _ _ (sym (c .enum-told .given .1) ∙ c .before .before .cmp .ensures))
 
 returns-3 : tie.Need-returns-3
 returns-3 c =
-    λ n d h. beside-equal h _ (order-is _ _ (sym (c .before .enum-told2 .given .1) ∙ c .before .before .before .cmp .ensures)) (c .if1 .left)
+    beside-equal (c .before .before .before .before .reduce .ensures) _ (order-is _ _ (sym (c .before .enum-told2 .given .1) ∙ c .before .before .before .cmp .ensures)) (c .if1 .left)
 
 returns-4 : tie.Need-returns-4
 returns-4 c =
-    λ n d h. beside-greater h _ (order-is _ _ (sym (c .enum-told3 .given .1) ∙ c .before .before .cmp .ensures))
+    beside-greater (c .before .before .before .reduce .ensures) _ (order-is _ _ (sym (c .enum-told3 .given .1) ∙ c .before .before .cmp .ensures))
 
 pub beside-spec : {M : Type 1} → statement M
 beside-spec =
     tie.close
     (tie.spec
+    reduce-requires
     cmp-requires
     enum-told
     enum-told-2

@@ -1,9 +1,9 @@
-use Rattle.amount.proofs.Scaling.{reduce-start, reduce-none, places-none}
+use Rattle.amount.proofs.Scaling.{reduce-start, places-none}
 use Rattle.amount.specs.Amounts.{ReducedBy}
 use Rattle.amount.specs.Numbers.{val}
 use Prim.Native.Nat.{_-_, _≤_}
-use borrow.Author.Needs.{needs}
 use native.Mathlib.Omega.{arith}
+use borrow.Author.Needs.{needs}
 use Rattle.amount.proofs.reduce.Statement.{statement}
 use Rattle.amount.proofs.reduce.Tie as tie
 
@@ -16,14 +16,14 @@ abbrev μ-loop : tie.MeasureT-loop
 loop-holds : tie.Need-loop-holds Inv-loop μ-loop
 loop-holds c = (search needs, places-none (omega arith) (reduce-start _))
 
-is-zero-requires : tie.Need-is-zero-requires Inv-loop μ-loop
-is-zero-requires c κs = search needs
-
-returns : tie.Need-returns Inv-loop μ-loop
-returns c = reduce-none _ (omega arith) (c .before .before .before .before .loop .inv .1) (c .before .is-zero .ensures) (c .if1 .taken)
-
 reduce-by-requires : tie.Need-reduce-by-requires Inv-loop μ-loop
 reduce-by-requires c κs = search needs
+
+returns : tie.Need-returns Inv-loop μ-loop
+returns c = places-none (omega arith) (c .reduce-by .ensures _ _ (c .before .before .before .before .loop .inv .1))
+
+reduce-by-requires-2 : tie.Need-reduce-by-requires-2 Inv-loop μ-loop
+reduce-by-requires-2 c κs = search needs
 
 sub-left : tie.Need-sub-left Inv-loop μ-loop
 sub-left c = search needs
@@ -32,13 +32,13 @@ loop-less : tie.Need-loop-less Inv-loop μ-loop
 loop-less c = search needs
 
 loop-again : tie.Need-loop-again Inv-loop μ-loop
-loop-again c = (search needs, places-none (omega arith) (c .reduce-by .ensures _ _ (c .before .before .before .before .before .loop .inv .1)))
+loop-again c = (search needs, places-none (omega arith) (c .reduce-by2 .ensures _ _ (c .before .before .before .before .loop .inv .1)))
 
-reduce-by-requires-2 : tie.Need-reduce-by-requires-2 Inv-loop μ-loop
-reduce-by-requires-2 c κs = search needs
+reduce-word-requires : tie.Need-reduce-word-requires Inv-loop μ-loop
+reduce-word-requires c κs = search needs
 
 returns-2 : tie.Need-returns-2 Inv-loop μ-loop
-returns-2 c = places-none (omega arith) (c .reduce-by2 .ensures _ _ (c .before .before .loop .inv .1))
+returns-2 c = places-none (omega arith) (c .reduce-word .ensures _ _ (c .before .before .before .loop .inv .1))
 
 pub reduce-spec : {M : Type 1} → statement M
 reduce-spec =
@@ -47,11 +47,11 @@ reduce-spec =
     Inv-loop
     μ-loop
     loop-holds
-    is-zero-requires
-    returns
     reduce-by-requires
+    returns
+    reduce-by-requires-2
     sub-left
     loop-less
     loop-again
-    reduce-by-requires-2
+    reduce-word-requires
     returns-2)

@@ -1,6 +1,5 @@
-use Rattle.amount.proofs.Scaling.{reduce-exact, reduce-rest, ten-pos}
-use Rattle.amount.specs.Numbers.{divisionOf}
-use mathlib.Core.Path.{ap, _∙_}
+use Rattle.amount.proofs.Scaling.{nine-fit, ten-pos}
+use Rattle.amount.proofs.Halves.{division-val, division-left}
 use borrow.Author.Needs.{needs}
 use Rattle.amount.proofs.reduce_by.Statement.{statement}
 use Rattle.amount.proofs.reduce_by.Tie as tie
@@ -8,18 +7,30 @@ use Rattle.amount.proofs.reduce_by.Tie as tie
 power-of-ten-requires : tie.Need-power-of-ten-requires
 power-of-ten-requires c κs = search needs
 
+cast-divide : tie.Need-cast-divide
+cast-divide c = record { fits = rw (c .power-of-ten .ensures) (nine-fit _ (search needs)) }
+
 divide-requires : tie.Need-divide-requires
 divide-requires c κs = rw (c .power-of-ten .ensures) (ten-pos _)
 
+cast-reduced-to : tie.Need-cast-reduced-to
+cast-reduced-to c = search needs
+
+reduced-to-requires : tie.Need-reduced-to-requires
+reduced-to-requires c κs = search needs
+
 returns : tie.Need-returns
 returns c =
-    let p = c .before .before .before .before .power-of-ten in
-    λ n j h. reduce-exact h _ _ (rw (p .ensures) at (c .before .before .before .divide .ensures)) (c .if1 .taken)
-
-returns-2 : tie.Need-returns-2
-returns-2 c =
-    let p = c .before .before .before .before .power-of-ten in
-    λ n j h. reduce-rest h _ _ (rw (p .ensures) at (c .before .before .before .divide .ensures)) (c .if1 .left)
+    let e = rw (c .before .before .before .power-of-ten .ensures) at (c .before .before .divide .ensures) in
+    λ n j h. c .reduced-to .ensures n j _ h (division-val _ _ e) (division-left _ _ e)
 
 pub reduce-by-spec : {M : Type 1} → statement M
-reduce-by-spec = tie.close (tie.spec power-of-ten-requires divide-requires returns returns-2)
+reduce-by-spec =
+    tie.close
+    (tie.spec
+    power-of-ten-requires
+    cast-divide
+    divide-requires
+    cast-reduced-to
+    reduced-to-requires
+    returns)

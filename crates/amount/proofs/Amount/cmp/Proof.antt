@@ -12,20 +12,14 @@ cmp-requires c κs = search needs
 returns : tie.Need-returns
 returns c = c .cmp .ensures ∙ compare-same _ _ (c .before .if1 .taken)
 
-sub-reduce : tie.Need-sub-reduce
-sub-reduce c = search needs
-
-reduce-requires : tie.Need-reduce-requires
-reduce-requires c κs = search needs
+sub-beside : tie.Need-sub-beside
+sub-beside c = search needs
 
 beside-requires : tie.Need-beside-requires
 beside-requires c κs = search needs
 
 returns-2 : tie.Need-returns-2
-returns-2 c = c .beside .ensures _ _ (c .before .reduce .ensures) ∙ compare-up _ _ (omega arith)
-
-reduce-requires-2 : tie.Need-reduce-requires-2
-reduce-requires-2 c κs = search needs
+returns-2 c = c .beside .ensures ∙ compare-up _ _ (omega arith)
 
 beside-requires-2 : tie.Need-beside-requires-2
 beside-requires-2 c κs = search needs
@@ -34,7 +28,7 @@ reverse-requires : tie.Need-reverse-requires
 reverse-requires c κs = search needs
 
 returns-3 : tie.Need-returns-3
-returns-3 c = c .reverse .ensures ∙ ap reverseOf (c .before .beside2 .ensures _ _ (c .before .before .reduce2 .ensures) ∙ compare-up _ _ (omega arith)) ∙ compare-reversed _ _
+returns-3 c = c .reverse .ensures ∙ ap reverseOf (c .before .beside2 .ensures ∙ compare-up _ _ (omega arith)) ∙ compare-reversed _ _
 
 pub cmp-spec : {M : Type 1} → statement M
 cmp-spec =
@@ -42,11 +36,9 @@ cmp-spec =
     (tie.spec
     cmp-requires
     returns
-    sub-reduce
-    reduce-requires
+    sub-beside
     beside-requires
     returns-2
-    reduce-requires-2
     beside-requires-2
     reverse-requires
     returns-3)

@@ -23,17 +23,17 @@ slice-aggregate-put-digits c = search needs
 whole-fits : (c : tie.After-width) → c .width .result ≤ 39
 whole-fits c = rw (c .width .ensures) (width-few _)
 
-len-fits : (c : tie.After-width2) → c .width2 .result + 1 + c .before .before .before .before .before .before .before .stripped .result .scale ≤ 257
+len-fits : (c : tie.After-width2) → c .width2 .result + 1 + c .before .before .before .before .before .before .stripped .result .scale ≤ 257
 len-fits c =
-    let a = c .before .before .before .before .before .before .before .stripped .result in
+    let a = c .before .before .before .before .before .before .stripped .result in
     rw (c .width2 .ensures)
-    (text-fits (val (a .mantissa)) (a .scale) _ (whole-of (a .mantissa) (omega arith) (omega arith) .fits) (omega arith) (c .before .before .reduce .ensures .quotient))
+    (text-fits (val (a .mantissa)) (a .scale) _ (whole-of (a .mantissa) (omega arith) (omega arith) .fits) (omega arith) (c .before .whole-part .ensures))
 
 put-digits-requires : tie.Need-put-digits-requires
 put-digits-requires c κs = omega (arith, whole-fits (c .before))
 
-cast-t16 : tie.Need-cast-t16
-cast-t16 c = omega (arith, whole-fits (c .before .before .before))
+cast-t15 : tie.Need-cast-t15
+cast-t15 c = omega (arith, whole-fits (c .before .before .before))
 
 returns : tie.Need-returns
 unfolding zeros
@@ -44,8 +44,8 @@ returns c =
 cast-scale : tie.Need-cast-scale
 cast-scale c = search needs
 
-reduce-requires : tie.Need-reduce-requires
-reduce-requires c κs = search needs
+whole-part-requires : tie.Need-whole-part-requires
+whole-part-requires c κs = search needs
 
 width-requires-2 : tie.Need-width-requires-2
 width-requires-2 c κs = search needs
@@ -71,16 +71,16 @@ slice-aggregate-put-digits-3 c = search needs
 put-digits-requires-3 : tie.Need-put-digits-requires-3
 put-digits-requires-3 c κs = (omega arith, simp length-set (omega (arith, len-fits (c .before .before .before .before))))
 
-cast-t26 : tie.Need-cast-t26
-cast-t26 c = omega (arith, len-fits (c .before .before .before .before .before .before))
+cast-t25 : tie.Need-cast-t25
+cast-t25 c = omega (arith, len-fits (c .before .before .before .before .before .before))
 
 returns-2 : tie.Need-returns-2
 unfolding zeros
 returns-2 c =
     let w = c .before .before .before .before .before .before .width2 in
-    let a = c .before .before .before .before .before .before .before .before .before .before .before .before .before .stripped in
+    let a = c .before .before .before .before .before .before .before .before .before .before .before .before .stripped in
     let s = a .result .scale in
-    with-point _ _ (a .ensures) _ _ (c .before .before .before .before .before .before .before .before .reduce .ensures .quotient) (w .ensures) _ (c .before .before .before .before .before .before .before .before .before .before .if1 .left)
+    with-point _ _ (a .ensures) _ _ (c .before .before .before .before .before .before .before .whole-part .ensures) (w .ensures) _ (c .before .before .before .before .before .before .before .before .before .if1 .left)
     (c .before .put-digits3 .ensures _ (put-point _ _ _ (before-fraction (w .result) s _ (c .before .before .before .before .put-digits2 .ensures _ (zeros-split (w .result + 1 + s) 257 (len-fits (c .before .before .before .before .before .before)))))))
 
 pub to-canonical-string-spec : {M : Type 1} → statement M
@@ -91,10 +91,10 @@ to-canonical-string-spec =
     width-requires
     slice-aggregate-put-digits
     put-digits-requires
-    cast-t16
+    cast-t15
     returns
     cast-scale
-    reduce-requires
+    whole-part-requires
     width-requires-2
     add-len
     add-len-2
@@ -103,5 +103,5 @@ to-canonical-string-spec =
     array-write-bytes
     slice-aggregate-put-digits-3
     put-digits-requires-3
-    cast-t26
+    cast-t25
     returns-2)

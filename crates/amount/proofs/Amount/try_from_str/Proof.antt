@@ -1,3 +1,4 @@
+use Rattle.amount.proofs.Scaling.{nine-fit}
 use Rattle.amount.proofs.Reading.{Numbered, read-empty, read-long, first-none, first-some, next-none, next-small, next-large, next-some, finish}
 use lib.ListN.{length}
 use Prim.Native.Nat.{_+_, _-_, _≤_}
@@ -86,11 +87,14 @@ cast-power-of-ten c = search needs
 power-of-ten-requires : tie.Need-power-of-ten-requires Inv-loop μ-loop
 power-of-ten-requires c κs = search needs
 
+cast-power : tie.Need-cast-power Inv-loop μ-loop
+cast-power c = record { fits = rw (c .power-of-ten .ensures) (nine-fit _ (search needs)) }
+
 cast-times-plus : tie.Need-cast-times-plus Inv-loop μ-loop
 cast-times-plus c =
     let w = end-within (c .before .before .before .before .before .before) in
     let x = next-small (c .before .before .before .before .before .before .before .before .loop .inv) _ (w .0) (w .1) _ (sym (c .before .before .word .given .1) ∙ c .before .before .before .before .word-of2 .ensures) in
-    record { fits = lt-trans (rw (← c .power-of-ten .ensures) at x) (search needs) }
+    record { fits = lt-trans x (nine-fit _ (omega (arith, w .2))) }
 
 times-plus-requires : tie.Need-times-plus-requires Inv-loop μ-loop
 times-plus-requires c κs = search needs
@@ -146,6 +150,7 @@ try-from-str-spec =
     sub-power-of-ten
     cast-power-of-ten
     power-of-ten-requires
+    cast-power
     cast-times-plus
     times-plus-requires
     enum-known-next
