@@ -140,7 +140,10 @@ impl Bench {
             grown: Vec::new(),
             answered: (0, 0, 0),
         };
-        let texts: Vec<(u8, &str)> = (11 - size.clamp(1, 10) as u8..=10).map(|n| (n, "3")).collect();
+        // the amount, and then other names that the operation does not read
+        let mut names: Vec<u8> = [7, 8, 9, 10, 1, 2, 3, 4, 5, 6].into_iter().take(size.clamp(1, 10)).collect();
+        names.sort_unstable();
+        let texts: Vec<(u8, &str)> = names.into_iter().map(|n| (n, "3")).collect();
         b.grown = input_sheet(&texts);
         b
     }
