@@ -9,7 +9,7 @@ use borrow.Author.Tests.{leb-false}
 use Rattle.amount.specs.Numbers.{limit}
 use Rattle.amount.proofs.Halves.{val-halves}
 use Rattle.sheet.specs.Fields.{field, amount}
-use Rattle.profiles.specs.Readers.{amountIn}
+use Rattle.registry.specs.Readers.{amountIn}
 use Rattle.profiles.specs.Balance.{balanceRules}
 use Rattle.book.specs.Book.{wholeAmount, nameBytes, placeRecord, placeAt, total, isSome}
 use Rattle.book.specs.Steps.{Act, creditsIn, adds, changed, seen, testsAct, firstRefusal, heldAt}

@@ -14,12 +14,12 @@ use Rattle.amount.specs.Amounts.{sumOf, differenceOf}
 use Rattle.amount.specs.declared.Amount.{Amount}
 use Rattle.amount.specs.declared.AmountResult.the-variants.{Ok}
 use Rattle.sheet.specs.Fields.{Field, text, field, subject, unit, balance, amount, to-subject, authorized-by}
-use Rattle.profiles.specs.Readers.{amountIn, amountOf, readable, readAmount, textIn, textOf}
-use Rattle.profiles.specs.Tests.{Test, born, in-text, first, stateAbsent, stateThere}
+use Rattle.registry.specs.Readers.{amountIn, amountOf, readable, readAmount, textIn, textOf}
+use Rattle.registry.specs.Tests.{Test, born, in-text, first, stateAbsent, stateThere}
+use Rattle.registry.specs.declared.error.Outcome.the-variants as Check
+use Rattle.registry.specs.declared.error.Reading.{Reading}
+use Rattle.registry.specs.declared.error.Reading.the-variants.{Given, Failed}
 use Rattle.profiles.specs.Balance.{credited, debited, balanceRules}
-use Rattle.profiles.specs.declared.error.Outcome.the-variants as Check
-use Rattle.profiles.specs.declared.error.Reading.{Reading}
-use Rattle.profiles.specs.declared.error.Reading.the-variants.{Given, Failed}
 use Rattle.places.specs.Places.{placeView, closedView}
 use Rattle.places.proofs.Accepted.{then-both}
 use Rattle.transition.specs.Next.{balanceOf}

@@ -10,7 +10,7 @@ use native.Mathlib.Omega.{arith}
 use Rattle.amount.specs.Numbers.{limit}
 use Rattle.amount.proofs.Halves.{val-halves}
 use Rattle.sheet.specs.Fields.{Field, field, text, amount, to-subject}
-use Rattle.profiles.specs.Readers.{amountIn}
+use Rattle.registry.specs.Readers.{amountIn}
 use Rattle.profiles.specs.Balance.{balanceRules}
 use Rattle.places.specs.Places.{putField}
 use Rattle.book.specs.Book.{wholeAmount, nameBytes, placeRecord, placeAt, transferAt, loadOf, total, isSome, setBalance, setCredits, setTransfer}

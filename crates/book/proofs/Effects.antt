@@ -17,14 +17,14 @@ use Rattle.amount.specs.declared.AmountResult.the-variants.{Ok}
 use Rattle.amount.specs.declared.AmountResult.the-variants as Read
 use Rattle.amount.proofs.Halves.{val-halves}
 use Rattle.sheet.specs.Fields.{Field, absent, text, whole, other, field, subject, unit, balance, amount, to-subject}
-use Rattle.profiles.specs.Refusals.{zeroAmount}
-use Rattle.profiles.specs.Readers.{marked, parsed, givenOr, amountBy, amountIn, readable, readAmount, textIn}
-use Rattle.profiles.specs.Tests.{stateAbsent}
+use Rattle.registry.specs.Refusals.{zeroAmount}
+use Rattle.registry.specs.Readers.{marked, parsed, givenOr, amountBy, amountIn, readable, readAmount, textIn}
+use Rattle.registry.specs.Tests.{stateAbsent}
+use Rattle.registry.specs.declared.error.ProfileError.the-variants.{NotWhole, FloatForbidden}
+use Rattle.registry.specs.declared.error.Outcome.the-variants as Check
+use Rattle.registry.specs.declared.error.Reading.{Reading}
+use Rattle.registry.specs.declared.error.Reading.the-variants.{Given, Failed}
 use Rattle.profiles.specs.Balance.{balanceRules}
-use Rattle.profiles.specs.declared.error.ProfileError.the-variants.{NotWhole, FloatForbidden}
-use Rattle.profiles.specs.declared.error.Outcome.the-variants as Check
-use Rattle.profiles.specs.declared.error.Reading.{Reading}
-use Rattle.profiles.specs.declared.error.Reading.the-variants.{Given, Failed}
 use Rattle.places.specs.Places.{placeView, closedView, putField}
 use Rattle.places.proofs.Accepted.{then-both}
 use Rattle.book.specs.Book.{credits, wholeAmount, nameBytes, placeRecord, transferRecord, placeAt, transferAt, balanceOf, loadOf, balances, loads, total, isSome}

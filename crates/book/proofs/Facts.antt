@@ -10,11 +10,11 @@ use lib.ListN.{length}
 use borrow.Author.Tests.{leb-false, lt-leb, ltb-false, le-ltb, eqb-false, ne-eqb, not-false}
 use Rattle.amount.specs.Numbers.{limit}
 use Rattle.sheet.specs.Fields.{field, subject, unit, balance, amount}
-use Rattle.profiles.specs.Readers.{amountIn}
+use Rattle.registry.specs.Readers.{amountIn}
+use Rattle.registry.specs.declared.error.Outcome.{Outcome}
+use Rattle.registry.specs.declared.error.Outcome.the-variants as Check
+use Rattle.registry.specs.declared.error.ProfileError.the-variants.{UnknownOperation, Born, Unborn}
 use Rattle.profiles.specs.Balance.{balanceRules}
-use Rattle.profiles.specs.declared.error.Outcome.{Outcome}
-use Rattle.profiles.specs.declared.error.Outcome.the-variants as Check
-use Rattle.profiles.specs.declared.error.ProfileError.the-variants.{UnknownOperation, Born, Unborn}
 use Rattle.book.specs.Book.{wellFormed}
 use Rattle.book.specs.Steps.{creditsIn, bytesIn, adds, acts, refusedIf, said, firstRefusal, sameBytes, Seen, sheetSound, sentTo, testsOpen, testsAct, testsBegin, testsFinish, Step, testsOf, seen, answer}
 use Rattle.book.specs.declared.Book.{Book}

@@ -11,13 +11,13 @@ use borrow.Author.Tests.{eqb-true, eqb-false}
 use Rattle.amount.specs.declared.Amount.{Amount}
 use Rattle.amount.proofs.Halves.{val-halves}
 use Rattle.sheet.specs.Fields.{Field, absent, text, whole, other, field, Sight, subject, amount, to-subject, authorized-by}
-use Rattle.profiles.specs.Readers.{amountIn, amountOf, readAmount, textIn, bytesOf}
-use Rattle.profiles.specs.Tests.{stateThere, stateAbsent, Test, first, born, in-text, among}
+use Rattle.registry.specs.Readers.{amountIn, amountOf, readAmount, textIn, bytesOf}
+use Rattle.registry.specs.Tests.{stateThere, stateAbsent, Test, first, born, in-text, among}
+use Rattle.registry.specs.declared.error.ProfileError.{ProfileError}
+use Rattle.registry.specs.declared.error.ProfileError.the-variants.{Empty}
+use Rattle.registry.specs.declared.error.Outcome.{Outcome}
+use Rattle.registry.specs.declared.error.Outcome.the-variants.{Accepted, Refused}
 use Rattle.profiles.specs.Balance.{balanceRules, debited, credited}
-use Rattle.profiles.specs.declared.error.ProfileError.{ProfileError}
-use Rattle.profiles.specs.declared.error.ProfileError.the-variants.{Empty}
-use Rattle.profiles.specs.declared.error.Outcome.{Outcome}
-use Rattle.profiles.specs.declared.error.Outcome.the-variants.{Accepted, Refused}
 use Rattle.places.specs.Places.{placeView, closedView}
 use Rattle.places.proofs.Accepted.{Within, then-both, debit-accepted, debit-accepts, amount-in-whole}
 use Rattle.book.specs.Book.{credits}

@@ -13,7 +13,7 @@ use lib.ListN.{length, take, replicate}
 use borrow.Author.Tests.{eq-eqb, ne-eqb, eqb-true, eqb-false, ltb-false}
 use Rattle.amount.specs.Numbers.{limit}
 use Rattle.sheet.specs.Fields.{unit}
-use Rattle.profiles.specs.declared.error.ProfileError.the-variants.{Empty}
+use Rattle.registry.specs.declared.error.ProfileError.the-variants.{Empty}
 use Rattle.book.specs.Sets.{bit, withBit, every, count}
 use Rattle.book.specs.Book.{nameBytes, nameOf, blankPlace, blankTransfer, blankBook, noPlace, noTransfer, placeRecord, transferRecord, placeAt, transferAt, balanceOf, loadOf, balances, loads, total, nameOk, setUnit, setCredits, setTransfer}
 use Rattle.book.specs.Steps.{Step, Open, Act, Begin, Finish, refusedIf, firstRefusal, testsOf, seen, answer, effect, next, startAnswer, startBook}

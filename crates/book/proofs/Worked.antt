@@ -9,11 +9,11 @@ use Rattle.amount.specs.Canonical.{zeros}
 use Rattle.sheet.specs.Walk.{allTo, sumTo, prior}
 use Rattle.sheet.specs.Sheet.{entryAt, entriesFrom, lookup, soundAs}
 use Rattle.sheet.specs.Fields.{field}
-use Rattle.profiles.specs.Refusals.{plainOf, zeroAmount}
-use Rattle.profiles.specs.Readers.{textIn, bytesOf, marked, parsed, amountBy, amountOf}
-use Rattle.profiles.specs.Tests.{stateAbsent, stateThere, aboveZero, heldBy}
+use Rattle.registry.specs.Refusals.{plainOf, zeroAmount}
+use Rattle.registry.specs.Readers.{textIn, bytesOf, marked, parsed, amountBy, amountOf}
+use Rattle.registry.specs.Tests.{stateAbsent, stateThere, aboveZero, heldBy}
+use Rattle.registry.specs.declared.error.Answer.{Answer}
 use Rattle.profiles.specs.Balance.{balanceRules}
-use Rattle.profiles.specs.declared.error.Answer.{Answer}
 use Rattle.book.specs.Sets.{bit, withBit, entry, sum, every}
 use Rattle.book.specs.Refusals.{answerOf}
 use Rattle.book.specs.Book.{wholeAmount, nameBytes, nameOf, blankName, blankPlace, blankTransfer, blankBook, placeRecord, transferRecord, placeAt, transferAt, balances, loads, total, nameOk, wellFormed, openPlace, setCredits, setTransfer}

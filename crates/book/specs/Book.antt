@@ -8,7 +8,7 @@ use lib.ListN.{length, getD, set, take, replicate}
 use Rattle.amount.specs.Numbers.{val, limit, halves}
 use Rattle.amount.specs.Canonical.{zeros}
 use Rattle.amount.specs.declared.Amount.{Amount}
-use Rattle.profiles.specs.Refusals.{zeroAmount}
+use Rattle.registry.specs.Refusals.{zeroAmount}
 use Rattle.book.specs.Sets.{withBit, entry, sum, every}
 use Rattle.book.specs.declared.Name.{Name}
 use Rattle.book.specs.declared.Place.{Place}

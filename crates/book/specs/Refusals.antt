@@ -1,6 +1,6 @@
 -- Document 01, the refusal table: the number, the detail and the two amounts of each answer of the book.
-use Rattle.profiles.specs.Refusals as profile
-use Rattle.profiles.specs.declared.error.Answer.{Answer}
+use Rattle.registry.specs.Refusals as profile
+use Rattle.registry.specs.declared.error.Answer.{Answer}
 use Rattle.book.specs.declared.error.BookError.{BookError}
 use Rattle.book.specs.declared.error.BookError.the-variants.{Profile, UnderWay, OffTheBook, Idle, Itself, TooMuch, OtherUnit, LongName, BadBook}
 use Rattle.book.specs.declared.error.BookOutcome.{BookOutcome}

@@ -9,13 +9,13 @@ use Rattle.amount.specs.Numbers.{limit}
 use Rattle.sheet.specs.Sheet.{verdictOf}
 use Rattle.sheet.specs.Fields.{Field, field, Sight, subject, unit, balance, amount, to-subject}
 use Rattle.sheet.specs.declared.Shape.the-variants.{Input}
-use Rattle.profiles.specs.Readers.{amountIn, bytesOf, readAmount}
-use Rattle.profiles.specs.Tests.{among}
+use Rattle.registry.specs.Readers.{amountIn, bytesOf, readAmount}
+use Rattle.registry.specs.Tests.{among}
+use Rattle.registry.specs.Call.{inputSound}
+use Rattle.registry.specs.declared.error.Outcome.{Outcome}
+use Rattle.registry.specs.declared.error.Outcome.the-variants as Check
+use Rattle.registry.specs.declared.error.ProfileError.the-variants.{UnknownOperation, Born, Unborn, Empty}
 use Rattle.profiles.specs.Balance.{balanceRules}
-use Rattle.profiles.specs.Check.{inputSound}
-use Rattle.profiles.specs.declared.error.Outcome.{Outcome}
-use Rattle.profiles.specs.declared.error.Outcome.the-variants as Check
-use Rattle.profiles.specs.declared.error.ProfileError.the-variants.{UnknownOperation, Born, Unborn, Empty}
 use Rattle.places.specs.Places.{placeView, closedView, putField}
 use Rattle.book.specs.Book.{credits, wholeAmount, nameBytes, nameOf, blankPlace, blankBook, blankTransfer, placeRecord, transferRecord, placeAt, transferAt, total, isSome, wellFormed, setSubject, setBalance, setUnit, openPlace, setCredits, setTransfer}
 use Rattle.book.specs.declared.Place.{Place}

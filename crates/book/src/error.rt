@@ -1,11 +1,11 @@
 // Why a step of the book refuses: a profile's refusal, or one of document 01's 21 to 28.
 ghost use mathlib.Core.Path.{_≡_};
-ghost use Rattle.profiles.specs.Refusals.{plainOf};
+ghost use Rattle.registry.specs.Refusals.{plainOf};
 ghost use Rattle.book.specs.Refusals.{refusalOf, answerOf};
 use amount::Amount;
-use profiles::error;
-use profiles::error::Answer;
-use profiles::error::ProfileError;
+use registry::error;
+use registry::error::Answer;
+use registry::error::ProfileError;
 
 pub enum BookError {
     Profile(ProfileError),

@@ -12,7 +12,7 @@ use book::Transfer;
 use book::error;
 use libc::STDIN_FILENO;
 use libc::STDOUT_FILENO;
-use profiles::error::Answer;
+use registry::error::Answer;
 
 // The kinds of records. 1 to 4 are the steps, as in a session.
 const START: u8 = 0;

@@ -36,8 +36,8 @@ use Rattle.book.proofs.Place as P
 use Rattle.book.proofs.Place.Laws as P′
 use Rattle.book.proofs.Transfer as Q
 use Rattle.book.proofs.Transfer.Laws as Q′
-use Rattle.profiles.proofs.error.Answer as R
-use Rattle.profiles.proofs.error.Answer.Laws as R′
+use Rattle.registry.proofs.error.Answer as R
+use Rattle.registry.proofs.error.Answer.Laws as R′
 use Rattle.steps.specs.Survey.{surveyOf}
 use Rattle.steps.specs.declared.survey.Survey.{Survey}
 use Rattle.steps.proofs.survey.Survey as S

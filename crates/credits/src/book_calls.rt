@@ -4,7 +4,7 @@ ghost use mathlib.Core.Path.{_≡_};
 ghost use Rattle.book.specs.Refusals.{answerOf};
 ghost use Rattle.book.specs.Steps.{Open, Act, Begin, Finish, answer, next, startAnswer, startBook};
 use book::Book;
-use profiles::error::Answer;
+use registry::error::Answer;
 
 #[repr(C)]
 pub struct Started {

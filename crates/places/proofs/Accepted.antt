@@ -19,15 +19,15 @@ use Rattle.amount.specs.declared.AmountResult.{AmountResult}
 use Rattle.amount.specs.declared.AmountResult.the-variants as Read
 use Rattle.amount.proofs.Halves.{OrderFact, order-fact, val-halves}
 use Rattle.sheet.specs.Fields.{Field, absent, text, whole, other, amount}
-use Rattle.profiles.specs.Readers.{marked, parsed, givenOr, amountBy, amountIn, amountOf, readable, onAmount}
-use Rattle.profiles.specs.Tests.{_then_, aboveZero, heldBy, unlessLess, stateThere, first, born}
+use Rattle.registry.specs.Readers.{marked, parsed, givenOr, amountBy, amountIn, amountOf, readable, onAmount}
+use Rattle.registry.specs.Tests.{_then_, aboveZero, heldBy, unlessLess, stateThere, first, born}
+use Rattle.registry.specs.declared.error.ProfileError.{ProfileError}
+use Rattle.registry.specs.declared.error.ProfileError.the-variants.{NonPositiveAmount, InsufficientQuantity, NotWhole, FloatForbidden}
+use Rattle.registry.specs.declared.error.Outcome.{Outcome}
+use Rattle.registry.specs.declared.error.Outcome.the-variants.{Accepted, Refused}
+use Rattle.registry.specs.declared.error.Reading.{Reading}
+use Rattle.registry.specs.declared.error.Reading.the-variants.{Given, Failed}
 use Rattle.profiles.specs.Balance.{debited, credited}
-use Rattle.profiles.specs.declared.error.ProfileError.{ProfileError}
-use Rattle.profiles.specs.declared.error.ProfileError.the-variants.{NonPositiveAmount, InsufficientQuantity, NotWhole, FloatForbidden}
-use Rattle.profiles.specs.declared.error.Outcome.{Outcome}
-use Rattle.profiles.specs.declared.error.Outcome.the-variants.{Accepted, Refused}
-use Rattle.profiles.specs.declared.error.Reading.{Reading}
-use Rattle.profiles.specs.declared.error.Reading.the-variants.{Given, Failed}
 use Rattle.places.specs.Places.{placeView}
 
 -- a whole amount

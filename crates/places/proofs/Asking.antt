@@ -7,11 +7,11 @@ use lib.ListN.{length}
 use borrow.Author.Tests.{ne-eqb}
 use Rattle.amount.specs.declared.Amount.{Amount}
 use Rattle.sheet.specs.Fields.{Field, text, amount, to-subject}
-use Rattle.profiles.specs.Readers.{textIn, amountIn, amountOf}
-use Rattle.profiles.specs.Tests.{asking, stateThere, first, born, in-text}
+use Rattle.registry.specs.Readers.{textIn, amountIn, amountOf}
+use Rattle.registry.specs.Tests.{asking, stateThere, first, born, in-text}
+use Rattle.registry.specs.declared.error.Reading.{Reading}
+use Rattle.registry.proofs.Tests.{then-end}
 use Rattle.profiles.specs.Balance.{debited}
-use Rattle.profiles.specs.declared.error.Reading.{Reading}
-use Rattle.profiles.proofs.Tests.{then-end}
 use Rattle.places.specs.Places.{placeView, putField}
 
 module _ (s u : List ℕ) (b : Amount) (inp : ℕ → Field) where

@@ -4,15 +4,14 @@ ghost use mathlib.Core.List.{List, _∷_};
 ghost use Prim.Native.Nat.{ℕ};
 ghost use Rattle.amount.specs.declared.Amount.{Amount};
 ghost use Rattle.sheet.specs.Fields.{field, balance, authorized-by};
-ghost use Rattle.profiles.specs.Readers.{amountIn};
-ghost use Rattle.profiles.specs.Tests.{first, born, in-text, creates};
+ghost use Rattle.registry.specs.Readers.{amountIn};
+ghost use Rattle.registry.specs.Tests.{first, born, in-text, creates};
 ghost use Rattle.profiles.specs.Balance.{credited, debited, balanceRules};
 ghost use Rattle.places.specs.Places.{placeView, closedView};
 use amount::Amount;
-use profiles::error::Outcome;
-use profiles::error::ProfileError;
-use profiles::error::Reading;
-use profiles::registry;
+use registry::error::Outcome;
+use registry::error::ProfileError;
+use registry::error::Reading;
 
 // 11 at a closed place, which is an absent state.
 pub fn check_create_at(input: &[u8]) -> Outcome

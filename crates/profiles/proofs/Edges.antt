@@ -18,16 +18,17 @@ use Rattle.amount.specs.declared.uint128.Ordering.the-variants.{Equal}
 use Rattle.sheet.specs.Walk.{allTo, sumTo, prior}
 use Rattle.sheet.specs.Sheet.{entryAt, soundAs, entriesFrom, lookup}
 use Rattle.sheet.specs.Amounts.{amountAt}
-use Rattle.sheet.specs.Encode.{encode, item, stackSheet, balanceSheet, meterSheet}
+use Rattle.writer.specs.Encode.{encode, item, stackSheet, balanceSheet, meterSheet}
 use Rattle.sheet.specs.Fields.{field, subject, quantity, remaining, maximum, amount}
-use Rattle.profiles.specs.Refusals.{plainOf, answerOf}
-use Rattle.profiles.specs.Readers.{textIn, marked, parsed, amountBy, amountOf}
-use Rattle.profiles.specs.Tests.{aboveZero, heldBy, upTo, stateThere, stateAbsent}
+use Rattle.registry.specs.Refusals.{plainOf, answerOf}
+use Rattle.registry.specs.Readers.{textIn, marked, parsed, amountBy, amountOf}
+use Rattle.registry.specs.Tests.{aboveZero, heldBy, upTo, stateThere, stateAbsent}
+use Rattle.registry.specs.Call.{operationOf, called}
+use Rattle.registry.specs.declared.error.Answer as Check
 use Rattle.profiles.specs.Stack.{stackRules}
 use Rattle.profiles.specs.Balance.{balanceRules}
 use Rattle.profiles.specs.Meter.{meterRules}
-use Rattle.profiles.specs.Check.{operationOf, called, checkOf}
-use Rattle.profiles.specs.declared.error.Answer as Check
+use Rattle.profiles.specs.Check.{checkOf}
 
 pub data Case : Type 0 where
   reading : List ℕ → Case

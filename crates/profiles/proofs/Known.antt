@@ -9,14 +9,14 @@ use lib.Dec.{eqb, leb}
 use borrow.Author.Tests.{eqb-true, eqb-false, ne-eqb, leb-true}
 use Rattle.sheet.specs.Fields.{Field, Sight}
 use Rattle.sheet.proofs.Tables.{and-left, and-right}
-use Rattle.profiles.specs.Readers.{amountIn}
-use Rattle.profiles.specs.Tests.{_then_, Row, among, ruled}
+use Rattle.registry.specs.Readers.{amountIn}
+use Rattle.registry.specs.Tests.{_then_, Row, among, ruled}
+use Rattle.registry.specs.Call.{profileOf, operationOf}
+use Rattle.registry.specs.declared.error.ProfileError.the-variants.{UnknownProfile, UnknownOperation}
+use Rattle.registry.specs.declared.error.Outcome.the-variants.{Accepted, Refused}
 use Rattle.profiles.specs.Stack.{stackRows, stackRules}
 use Rattle.profiles.specs.Balance.{balanceRows, balanceRules}
 use Rattle.profiles.specs.Meter.{meterRows, meterRules}
-use Rattle.profiles.specs.Check.{profileOf, operationOf}
-use Rattle.profiles.specs.declared.error.ProfileError.the-variants.{UnknownProfile, UnknownOperation}
-use Rattle.profiles.specs.declared.error.Outcome.the-variants.{Accepted, Refused}
 
 -- the operations of a row, and of all rows, are of the profile
 abbrev each : ℕ → List ℕ → Bool

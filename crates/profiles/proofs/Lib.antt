@@ -1,5 +1,3 @@
 -- The laws of the definitions, which the proofs cite, and the theorems that docs/PROOFS.md names.
-pub mod Readers
-pub mod Tests
 pub mod Known
 pub mod Edges

@@ -2,9 +2,9 @@
 use mathlib.Core.List.{List, [], _∷_}
 use Prim.Native.Nat.{ℕ}
 use Rattle.sheet.specs.Fields.{Field, Sight, balance, amount, to-subject, to-unit, authorized-by}
-use Rattle.profiles.specs.Tests.{Test, born, in-text, in-amount, st-amount, positive, takes, creates, Row, row, ruled}
-use Rattle.profiles.specs.declared.error.Outcome.{Outcome}
-use Rattle.profiles.specs.declared.error.Reading.{Reading}
+use Rattle.registry.specs.Tests.{Test, born, in-text, in-amount, st-amount, positive, takes, creates, Row, row, ruled}
+use Rattle.registry.specs.declared.error.Outcome.{Outcome}
+use Rattle.registry.specs.declared.error.Reading.{Reading}
 
 -- in amount, st balance, 14
 abbrev pub credited : List Test

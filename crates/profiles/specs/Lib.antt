@@ -1,7 +1,4 @@
 -- The definitions that the contracts and theorems of `profiles` cite: document 01's section "Operations".
-pub mod Refusals
-pub mod Readers
-pub mod Tests
 pub mod Stack
 pub mod Balance
 pub mod Meter

@@ -2,9 +2,9 @@
 use mathlib.Core.List.{List, [], _∷_}
 use Prim.Native.Nat.{ℕ}
 use Rattle.sheet.specs.Fields.{Field, Sight, subject, remaining, maximum, amount}
-use Rattle.profiles.specs.Tests.{unborn, born, in-text, in-amount, st-amount, up-to-maximum, takes, Row, row, ruled}
-use Rattle.profiles.specs.declared.error.Outcome.{Outcome}
-use Rattle.profiles.specs.declared.error.Reading.{Reading}
+use Rattle.registry.specs.Tests.{unborn, born, in-text, in-amount, st-amount, up-to-maximum, takes, Row, row, ruled}
+use Rattle.registry.specs.declared.error.Outcome.{Outcome}
+use Rattle.registry.specs.declared.error.Reading.{Reading}
 
 -- 21 create; 22 consume; 23 refill; 24 set_maximum; 25 reset and 26 expire
 abbrev pub meterRows : List Row

@@ -2,9 +2,9 @@
 use mathlib.Core.List.{List, [], _∷_}
 use Prim.Native.Nat.{ℕ}
 use Rattle.sheet.specs.Fields.{Field, Sight, quantity, to-subject}
-use Rattle.profiles.specs.Tests.{born, in-text, in-amount, positive, takes, creates, Row, row, ruled}
-use Rattle.profiles.specs.declared.error.Outcome.{Outcome}
-use Rattle.profiles.specs.declared.error.Reading.{Reading}
+use Rattle.registry.specs.Tests.{born, in-text, in-amount, positive, takes, creates, Row, row, ruled}
+use Rattle.registry.specs.declared.error.Outcome.{Outcome}
+use Rattle.registry.specs.declared.error.Reading.{Reading}
 
 -- 1 create; 2 credit and 9 adjust; 7 release; 8 expire; 3 debit, 4 consume and 6 reserve; 5 transfer
 abbrev pub stackRows : List Row

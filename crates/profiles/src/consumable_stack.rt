@@ -5,13 +5,12 @@ ghost use mathlib.Core.List.{[], _∷_};
 ghost use lib.Dec.{eqb};
 ghost use lib.ListN.{length};
 ghost use Rattle.sheet.specs.Fields.{field, sightOf, quantity, to-subject};
-ghost use Rattle.profiles.specs.Readers.{amountIn, amountOf};
-ghost use Rattle.profiles.specs.Tests.{firstOf, stateThere, born, in-text, in-amount, positive, takes, creates};
+ghost use Rattle.registry.specs.Readers.{amountIn, amountOf};
+ghost use Rattle.registry.specs.Tests.{firstOf, stateThere, born, in-text, in-amount, positive, takes, creates};
 ghost use Rattle.profiles.specs.Stack.{stackRules};
-use super::error::Outcome;
-use super::error::ProfileError;
-use super::error::Reading;
-use super::registry;
+use registry::error::Outcome;
+use registry::error::ProfileError;
+use registry::error::Reading;
 use sheet::QUANTITY;
 use sheet::TO_SUBJECT;
 

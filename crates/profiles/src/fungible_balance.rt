@@ -2,13 +2,12 @@
 ghost use mathlib.Core.Path.{_≡_};
 ghost use mathlib.Core.List.{_∷_};
 ghost use Rattle.sheet.specs.Fields.{field, sightOf, balance, to-subject, to-unit, authorized-by};
-ghost use Rattle.profiles.specs.Readers.{amountIn, amountOf};
-ghost use Rattle.profiles.specs.Tests.{firstOf, born, in-text, creates};
+ghost use Rattle.registry.specs.Readers.{amountIn, amountOf};
+ghost use Rattle.registry.specs.Tests.{firstOf, born, in-text, creates};
 ghost use Rattle.profiles.specs.Balance.{credited, debited, balanceRules};
-use super::error::Outcome;
-use super::error::ProfileError;
-use super::error::Reading;
-use super::registry;
+use registry::error::Outcome;
+use registry::error::ProfileError;
+use registry::error::Reading;
 use sheet::AMOUNT;
 use sheet::AUTHORIZED_BY;
 use sheet::BALANCE;

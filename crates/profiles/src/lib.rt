@@ -1,15 +1,13 @@
-// The profiles: readers of sheets, and the checks of stacks, balances and meters.
+// The profiles: the checks of stacks, balances and meters.
 ghost use mathlib.Core.Path.{_≡_};
 ghost use Rattle.profiles.specs.Check.{checkOf};
 
 pub mod consumable_stack;
-pub mod error;
 pub mod fungible_balance;
 pub mod meter;
-pub mod registry;
 
-use error::Outcome;
-use error::ProfileError;
+use registry::error::Outcome;
+use registry::error::ProfileError;
 
 // Whether an operation of a profile may be done on a state with an input: 1, 2, 3, then the profile's lists, which give 4.
 pub fn check(profile: u8, operation: u8, state: &[u8], input: &[u8]) -> Outcome

@@ -7,7 +7,7 @@ ghost use lib.ListN.{length};
 use amount::Amount;
 use libc::STDIN_FILENO;
 use libc::STDOUT_FILENO;
-use profiles::error::Answer;
+use registry::error::Answer;
 
 // The calls.
 const CHECK: u8 = 1;

@@ -10,7 +10,7 @@ use lib.Dec.{leb}
 use lib.ListN.{length, take}
 use lib.Seq.{sets-eq, take-append-seam}
 use borrow.Author.Tests.{le-leb, lt-leb, leb-true, eq-eqb, ne-eqb}
-use Rattle.sheet.specs.Encode.{putInto}
+use Rattle.writer.specs.Encode.{putInto}
 use Rattle.book.specs.Book.{wellFormed}
 use Rattle.session.specs.Session.{good, answersOf, bookOf, filled, goodRun, badRun, runOf}
 use Rattle.session.specs.declared.StepAnswer.{StepAnswer}

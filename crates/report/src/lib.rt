@@ -2,7 +2,7 @@
 ghost use mathlib.Core.Path.{_≡_};
 ghost use Prim.Native.Nat.{_≤_};
 ghost use lib.ListN.{length};
-ghost use Rattle.sheet.specs.Encode.{putInto};
+ghost use Rattle.writer.specs.Encode.{putInto};
 ghost use Rattle.report.specs.Listing.{listingOf, lengthIn};
 use session::running;
 

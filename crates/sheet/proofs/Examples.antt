@@ -9,7 +9,6 @@ use Rattle.sheet.specs.Walk.{allTo, sumTo, prior}
 use Rattle.sheet.specs.Sheet.{entryAt, soundAs, verdictOf, stateOf, entriesFrom, lookup}
 use Rattle.sheet.specs.Amounts.{amountAt}
 use Rattle.sheet.specs.Fields.{field, absent, text, whole, other}
-use Rattle.sheet.specs.Encode.{encode, balanceSheet}
 
 -- document 01's first open: subject `N1`, unit `rd`, balance `5`, all texts
 abbrev opened : List ℕ
@@ -32,7 +31,7 @@ abbrev placed : List ℕ
 placed = 1 ∷ 7 ∷ 2 ∷ 7 ∷ 0 ∷ 0 ∷ 0 ∷ []
 
 -- the balance of `N1` in `rd`, 1.2 with scale 1
-abbrev held : List ℕ
+abbrev pub held : List ℕ
 held = 3 ∷ 1 ∷ 1 ∷ 19 ∷ 0 ∷ 2 ∷ 0 ∷ 2 ∷ 1 ∷ 21 ∷ 0 ∷ 2 ∷ 0 ∷ 4 ∷ 3 ∷ 23 ∷ 0 ∷ 17 ∷ 0 ∷ 78 ∷ 49 ∷ 114 ∷ 100
     ∷ 12 ∷ 0 ∷ 0 ∷ 0 ∷ 0 ∷ 0 ∷ 0 ∷ 0 ∷ 0 ∷ 0 ∷ 0 ∷ 0 ∷ 0 ∷ 0 ∷ 0 ∷ 0 ∷ 1 ∷ []
 
@@ -55,7 +54,3 @@ values = refl
 amounts : field held 4 ≡ whole (record { mantissa = record { hi = 0; lo = 12 }; scale = 1 })
 unfolding field lookup entriesFrom entryAt amountAt
 amounts = refl
-
-written : balanceSheet (78 ∷ 49 ∷ []) (114 ∷ 100 ∷ []) (record { mantissa = record { hi = 0; lo = 12 }; scale = 1 }) ≡ held
-unfolding balanceSheet encode
-written = refl

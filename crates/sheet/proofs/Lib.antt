@@ -2,11 +2,8 @@
 pub mod Tables
 pub mod Walking
 pub mod Finding
-pub mod Copying
 pub mod Holding
 pub mod Three
 pub mod Forms
-pub mod AmountBytes
-pub mod RoundTrip
 pub mod Visiting
 pub mod Examples

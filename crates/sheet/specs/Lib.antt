@@ -3,5 +3,4 @@ pub mod Walk
 pub mod Sheet
 pub mod Amounts
 pub mod Fields
-pub mod Encode
 pub mod Visit

@@ -8,16 +8,11 @@ ghost use Rattle.sheet.specs.Sheet.{u16At, entryAt, table, lookup, partO
 mod amounts;
 pub mod reader;
 mod soundness;
-mod write;
 
 pub use amounts::amount_at;
 pub use amounts::amount_bytes;
 pub use soundness::layout;
 pub use soundness::state_of;
-pub use write::Put;
-pub use write::put_balance;
-pub use write::put_meter;
-pub use write::put_stack;
 
 // The names of fields.
 pub const SUBJECT: u8 = 1;
@@ -83,25 +78,25 @@ pub enum Found {
 }
 
 // The fields of a state: the subject's text, the field `second` of kind `kind`, and the amount `third`.
-struct Form {
-    second: u8,
-    kind: u8,
-    third: u8,
+pub struct Form {
+    pub second: u8,
+    pub kind: u8,
+    pub third: u8,
 }
 
-const STACK_FORM: Form = Form {
+pub const STACK_FORM: Form = Form {
     second: UNIT,
     kind: KIND_TEXT,
     third: QUANTITY,
 };
 
-const BALANCE_FORM: Form = Form {
+pub const BALANCE_FORM: Form = Form {
     second: UNIT,
     kind: KIND_TEXT,
     third: BALANCE,
 };
 
-const METER_FORM: Form = Form {
+pub const METER_FORM: Form = Form {
     second: REMAINING,
     kind: KIND_AMOUNT,
     third: MAXIMUM,

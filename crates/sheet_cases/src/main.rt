@@ -6,11 +6,11 @@ use amount::Amount;
 use libc::STDIN_FILENO;
 use libc::STDOUT_FILENO;
 use sheet::Found;
-use sheet::Put;
 use sheet::Shape;
 use sheet::State;
 use sheet::Verdict;
 use sheet::reader::Step;
+use writer::Put;
 
 fn put(text: &[u8]) {
     io::write_all(STDOUT_FILENO, text);
@@ -92,12 +92,12 @@ fn judge(s: &[u8]) {
 
 fn write_state(tag: u8, out: &mut [u8], subject: &[u8], unit: &[u8], a: Amount, b: Amount) -> Put {
     if tag == 1 {
-        return sheet::put_stack(out, subject, unit, a);
+        return writer::put_stack(out, subject, unit, a);
     }
     if tag == 2 {
-        return sheet::put_balance(out, subject, unit, a);
+        return writer::put_balance(out, subject, unit, a);
     }
-    sheet::put_meter(out, subject, a, b)
+    writer::put_meter(out, subject, a, b)
 }
 
 fn print_put(p: Put) {

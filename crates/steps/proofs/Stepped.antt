@@ -10,7 +10,7 @@ use Rattle.amount.specs.declared.uint128.Uint128.{Uint128}
 use Rattle.amount.specs.declared.uint128.Checked.the-variants.{Some, None}
 use Rattle.book.specs.Sets.{withBit}
 use Rattle.book.specs.Book.{blankTransfer, noPlace, noTransfer, placeRecord, transferRecord, openPlace, setOpened, setPending, setPlaces, setTransfer, setTransfers, total, wellFormed}
-use Rattle.profiles.specs.declared.error.Answer.{Answer}
+use Rattle.registry.specs.declared.error.Answer.{Answer}
 use Rattle.book.specs.Refusals.{answerOf}
 use Rattle.book.specs.Steps.{Step, Open, Act, Begin, Finish, seen, answer, effect, next}
 use Rattle.book.specs.declared.Place.{Place}

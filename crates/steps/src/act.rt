@@ -25,9 +25,8 @@ use book::Place;
 use book::error::BookError;
 use book::error::BookOutcome;
 use book::error::answer_of;
-use profiles::error::Outcome;
-use profiles::error::ProfileError;
-use profiles::registry;
+use registry::error::Outcome;
+use registry::error::ProfileError;
 
 // The operations that add.
 pub fn is_adding(operation: u8) -> bool

@@ -6,7 +6,7 @@ ghost use Prim.Native.Nat.{ℕ, _%_, _≤_, _<_};
 ghost use lib.Dec.{leb};
 ghost use lib.ListN.{set, take};
 ghost use Rattle.sheet.specs.Fields.{field, text, to-subject, amount};
-ghost use Rattle.profiles.specs.Readers.{amountIn, readAmount};
+ghost use Rattle.registry.specs.Readers.{amountIn, readAmount};
 ghost use Rattle.profiles.specs.Balance.{balanceRules};
 ghost use Rattle.places.specs.Places.{placeView, putField};
 ghost use Rattle.book.specs.Book.{placeRecord, transferRecord, setPlaces, setTransfer, wellFormed};
@@ -30,9 +30,8 @@ use book::Transfer;
 use book::error::BookError;
 use book::error::BookOutcome;
 use book::error::answer_of;
-use profiles::error::Outcome;
-use profiles::error::ProfileError;
-use profiles::registry;
+use registry::error::Outcome;
+use registry::error::ProfileError;
 
 // 22.
 fn off_the_book(from: u8, to: u8, transfer: u8) -> bool

@@ -25,9 +25,8 @@ use book::Place;
 use book::error::BookError;
 use book::error::BookOutcome;
 use book::error::answer_of;
-use profiles::error::Outcome;
-use profiles::error::ProfileError;
-use profiles::registry;
+use registry::error::Outcome;
+use registry::error::ProfileError;
 
 // 22, 5, 2, create's check, 26, 27, 25: open's answer on any sound book with that unit, those open places and that total.
 // No such book has a unit that meets the first test.

@@ -6,7 +6,7 @@ use book::Book;
 use book::Name;
 use book::Place;
 use book::Transfer;
-use profiles::error::Answer;
+use registry::error::Answer;
 
 // What every step's tests go by, besides records. No total: the book meets test 28.
 pub struct Survey {

@@ -5,13 +5,13 @@ use Prim.Native.Nat.{ℕ}
 use native.Mathlib.Omega.{arith}
 use Rattle.amount.specs.declared.Amount.{Amount}
 use Rattle.sheet.specs.Fields.{Field, field, Sight, sightOf}
-use Rattle.profiles.specs.Readers.{amountIn, readable, readAmount}
-use Rattle.profiles.specs.Tests.{Test, _then_, meets, first, firstOf}
-use Rattle.profiles.specs.declared.error.ProfileError.{ProfileError}
-use Rattle.profiles.specs.declared.error.Outcome.{Outcome}
-use Rattle.profiles.specs.declared.error.Outcome.the-variants.{Accepted, Refused}
-use Rattle.profiles.specs.declared.error.Reading.{Reading}
-use Rattle.profiles.specs.declared.error.Reading.the-variants.{Given, Failed}
+use Rattle.registry.specs.Readers.{amountIn, readable, readAmount}
+use Rattle.registry.specs.Tests.{Test, _then_, meets, first, firstOf}
+use Rattle.registry.specs.declared.error.ProfileError.{ProfileError}
+use Rattle.registry.specs.declared.error.Outcome.{Outcome}
+use Rattle.registry.specs.declared.error.Outcome.the-variants.{Accepted, Refused}
+use Rattle.registry.specs.declared.error.Reading.{Reading}
+use Rattle.registry.specs.declared.error.Reading.the-variants.{Given, Failed}
 use Rattle.transition.specs.Next.{Gives, Makes, unlessRefused, unlessFailed, amountOver, nextOver, withAmount, amountFor}
 use Rattle.transition.specs.declared.resource_state.ResourceState.{ResourceState}
 use Rattle.transition.specs.declared.resource_state.Next.{Next}

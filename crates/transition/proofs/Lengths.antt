@@ -10,19 +10,19 @@ use borrow.Author.Tests.{eqb-true, eqb-false, leb-true}
 use Rattle.sheet.specs.Sheet.{entriesFrom, table, lookup, lengthFits, partOf, soundAs, verdictOf, stateOf}
 use Rattle.sheet.specs.Fields.{fieldOf, fieldOfKind, field}
 use Rattle.sheet.specs.Amounts.{amountBytes}
-use Rattle.sheet.specs.Encode.{encode, item, stackSheet, balanceSheet, meterSheet, putAnswer}
+use Rattle.writer.specs.Encode.{encode, item, stackSheet, balanceSheet, meterSheet, putAnswer}
 use Rattle.sheet.specs.declared.Found.{Found}
 use Rattle.sheet.specs.declared.Found.the-variants.{At, Nothing}
 use Rattle.sheet.specs.declared.Shape.{Shape}
 use Rattle.sheet.specs.declared.Shape.the-variants.{Input, Stack, Balance, Meter}
 use Rattle.sheet.proofs.Holding.{held}
-use Rattle.profiles.specs.Check.{stateSound, inputSound, operationOf, called}
-use Rattle.profiles.specs.Tests.{_then_}
-use Rattle.profiles.specs.declared.error.Outcome.{Outcome}
-use Rattle.profiles.specs.declared.error.Outcome.the-variants.{Accepted, Refused}
-use Rattle.profiles.specs.Readers.{bytesOf}
-use Rattle.profiles.proofs.Readers.{no-bytes}
-use Rattle.sheet.specs.declared.write.Put.the-variants as Put
+use Rattle.registry.specs.Call.{stateSound, inputSound, operationOf, called}
+use Rattle.registry.specs.Tests.{_then_}
+use Rattle.registry.specs.declared.error.Outcome.{Outcome}
+use Rattle.registry.specs.declared.error.Outcome.the-variants.{Accepted, Refused}
+use Rattle.registry.specs.Readers.{bytesOf}
+use Rattle.registry.proofs.Readers.{no-bytes}
+use Rattle.writer.specs.declared.Put.the-variants as Put
 use Rattle.transition.specs.Next.{textFrom, sheetOf}
 use Rattle.transition.specs.Written.{ShortTexts, PutFits}
 use Rattle.transition.specs.declared.resource_state.Part.{Part}

@@ -4,10 +4,10 @@ use mathlib.Core.List.{List, [], _∷_, _++_}
 use Prim.Native.Nat.{ℕ}
 use lib.Dec.{eqb}
 use Rattle.sheet.specs.Fields.{Field, field, Sight, sightOf, subject, unit, quantity, balance, remaining, maximum, amount, to-subject, to-unit}
-use Rattle.profiles.specs.Readers.{amountIn}
-use Rattle.profiles.specs.Tests.{Test, born, in-text, in-amount, st-text, st-amount, adds, subtracts}
-use Rattle.profiles.specs.Check.{called}
-use Rattle.profiles.specs.declared.error.Reading.{Reading}
+use Rattle.registry.specs.Readers.{amountIn}
+use Rattle.registry.specs.Tests.{Test, born, in-text, in-amount, st-text, st-amount, adds, subtracts}
+use Rattle.registry.specs.Call.{called}
+use Rattle.registry.specs.declared.error.Reading.{Reading}
 use Rattle.transition.specs.Next.{Gives, zero, given, kept, sum, difference, lesser, Makes, stack-of, balance-of, meter-of, Row, row, unlessRefused, applied}
 use Rattle.transition.specs.declared.resource_state.Part.the-variants.{State, Input}
 use Rattle.transition.specs.declared.resource_state.Next.{Next}

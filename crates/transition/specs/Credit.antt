@@ -7,15 +7,15 @@ use Rattle.amount.specs.declared.Amount.{Amount}
 use Rattle.sheet.specs.Sheet.{stateOf, verdictOf}
 use Rattle.sheet.specs.Fields.{Field, field, Sight, sightOf, unit, quantity, balance, amount, to-subject}
 use Rattle.sheet.specs.declared.Shape.the-variants as Shape
-use Rattle.profiles.specs.Refusals.{zeroAmount}
-use Rattle.profiles.specs.Readers.{amountIn, amountOf, readAmount}
-use Rattle.profiles.specs.Tests.{Test, _then_, born, in-text, in-amount, st-text, first, plus}
-use Rattle.profiles.specs.Check.{stateSound, inputSound}
-use Rattle.profiles.specs.declared.error.ProfileError.the-variants.{NoCredit}
-use Rattle.profiles.specs.declared.error.Outcome.{Outcome}
-use Rattle.profiles.specs.declared.error.Outcome.the-variants.{Accepted, Refused}
-use Rattle.profiles.specs.declared.error.Reading.{Reading}
-use Rattle.profiles.specs.declared.error.Reading.the-variants.{Given, Failed}
+use Rattle.registry.specs.Refusals.{zeroAmount}
+use Rattle.registry.specs.Readers.{amountIn, amountOf, readAmount}
+use Rattle.registry.specs.Tests.{Test, _then_, born, in-text, in-amount, st-text, first, plus}
+use Rattle.registry.specs.Call.{stateSound, inputSound}
+use Rattle.registry.specs.declared.error.ProfileError.the-variants.{NoCredit}
+use Rattle.registry.specs.declared.error.Outcome.{Outcome}
+use Rattle.registry.specs.declared.error.Outcome.the-variants.{Accepted, Refused}
+use Rattle.registry.specs.declared.error.Reading.{Reading}
+use Rattle.registry.specs.declared.error.Reading.the-variants.{Given, Failed}
 use Rattle.transition.specs.Next.{stackOf, balanceOf, unlessRefused, withAmount}
 use Rattle.transition.specs.declared.resource_state.Part.the-variants.{State, Input}
 use Rattle.transition.specs.declared.resource_state.ResourceState.{ResourceState}

@@ -4,16 +4,16 @@ use mathlib.Core.List.{List, [], _∷_}
 use Prim.Native.Nat.{ℕ}
 use Rattle.amount.specs.Amounts.{minOf}
 use Rattle.amount.specs.declared.Amount.{Amount}
-use Rattle.sheet.specs.Encode.{stackSheet, balanceSheet, meterSheet}
+use Rattle.writer.specs.Encode.{stackSheet, balanceSheet, meterSheet}
 use Rattle.sheet.specs.Fields.{Field, field, Sight, sightOf}
-use Rattle.profiles.specs.Refusals.{zeroAmount}
-use Rattle.profiles.specs.Readers.{amountIn, amountOf, bytesOf, readAmount}
-use Rattle.profiles.specs.Tests.{Test, among, first, firstOf, plus, less}
-use Rattle.profiles.specs.declared.error.ProfileError.the-variants.{UnknownOperation}
-use Rattle.profiles.specs.declared.error.Outcome.{Outcome}
-use Rattle.profiles.specs.declared.error.Outcome.the-variants.{Accepted, Refused}
-use Rattle.profiles.specs.declared.error.Reading.{Reading}
-use Rattle.profiles.specs.declared.error.Reading.the-variants.{Given, Failed}
+use Rattle.registry.specs.Refusals.{zeroAmount}
+use Rattle.registry.specs.Readers.{amountIn, amountOf, bytesOf, readAmount}
+use Rattle.registry.specs.Tests.{Test, among, first, firstOf, plus, less}
+use Rattle.registry.specs.declared.error.ProfileError.the-variants.{UnknownOperation}
+use Rattle.registry.specs.declared.error.Outcome.{Outcome}
+use Rattle.registry.specs.declared.error.Outcome.the-variants.{Accepted, Refused}
+use Rattle.registry.specs.declared.error.Reading.{Reading}
+use Rattle.registry.specs.declared.error.Reading.the-variants.{Given, Failed}
 use Rattle.transition.specs.declared.resource_state.Part.{Part}
 use Rattle.transition.specs.declared.resource_state.Part.the-variants.{State, Input}
 use Rattle.transition.specs.declared.resource_state.ResourceState.{ResourceState}

@@ -2,14 +2,14 @@
 use mathlib.Core.List.{List}
 use Prim.Native.Nat.{ℕ, _<_, _≤_}
 use lib.ListN.{length}
-use Rattle.sheet.specs.Encode.{putInto, putAnswer}
+use Rattle.writer.specs.Encode.{putInto, putAnswer}
 use Rattle.sheet.specs.Fields.{field}
-use Rattle.sheet.specs.declared.write.Put.{Put}
-use Rattle.sheet.specs.declared.write.Put.the-variants as Put
-use Rattle.profiles.specs.Readers.{bytesOf}
-use Rattle.profiles.specs.Refusals.{zeroAmount, refusalOf}
-use Rattle.profiles.specs.declared.error.ProfileError.the-variants.{Narrow}
-use Rattle.profiles.specs.declared.error.Answer.{Answer}
+use Rattle.writer.specs.declared.Put.{Put}
+use Rattle.writer.specs.declared.Put.the-variants as Put
+use Rattle.registry.specs.Readers.{bytesOf}
+use Rattle.registry.specs.Refusals.{zeroAmount, refusalOf}
+use Rattle.registry.specs.declared.error.ProfileError.the-variants.{Narrow}
+use Rattle.registry.specs.declared.error.Answer.{Answer}
 use Rattle.transition.specs.Next.{sheetOf}
 use Rattle.transition.specs.declared.resource_state.ResourceState.{ResourceState}
 use Rattle.transition.specs.declared.resource_state.Next.{Next}

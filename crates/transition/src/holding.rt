@@ -1,7 +1,7 @@
 // The next state of stacks and balances. Meters have a module of their own.
 ghost use mathlib.Core.Path.{_≡_};
 ghost use Rattle.sheet.specs.Fields.{field, sightOf, subject, unit};
-ghost use Rattle.profiles.specs.Readers.{amountIn};
+ghost use Rattle.registry.specs.Readers.{amountIn};
 ghost use Rattle.transition.specs.Next.{withAmount, stackOf, balanceOf};
 ghost use Rattle.transition.specs.Apply.{stackNext, balanceNext};
 use super::amounts::adjusted;
@@ -16,8 +16,8 @@ use super::resource_state::FungibleBalanceState;
 use super::resource_state::Next;
 use super::resource_state::Part;
 use super::resource_state::ResourceState;
-use profiles::error::ProfileError;
-use profiles::error::Reading;
+use registry::error::ProfileError;
+use registry::error::Reading;
 use sheet::AMOUNT;
 use sheet::BALANCE;
 use sheet::QUANTITY;

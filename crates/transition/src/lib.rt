@@ -14,15 +14,14 @@ pub mod resource_state;
 mod transfer;
 
 use amount::Amount;
-use profiles::error::Answer;
-use profiles::error::Outcome;
-use profiles::error::ProfileError;
-use profiles::error::refusal;
-use profiles::registry;
+use registry::error::Answer;
+use registry::error::Outcome;
+use registry::error::ProfileError;
+use registry::error::refusal;
 use resource_state::Next;
 use resource_state::Part;
 use resource_state::ResourceState;
-use sheet::Put;
+use writer::Put;
 
 // 1, 2, 3, 4, the operation's reads and arithmetic, then 20.
 pub fn apply<'a>(
@@ -107,19 +106,19 @@ fn put_state<'a>(s: ResourceState, state: &'a [u8], input: &'a [u8], out: &mut [
             let unit = n.unit;
             let subject_text = part_text(subject, state, input);
             let unit_text = part_text(unit, state, input);
-            answered(sheet::put_stack(out, subject_text, unit_text, n.quantity))
+            answered(writer::put_stack(out, subject_text, unit_text, n.quantity))
         }
         ResourceState::FungibleBalance(n) => {
             let subject = n.subject;
             let unit = n.unit;
             let subject_text = part_text(subject, state, input);
             let unit_text = part_text(unit, state, input);
-            answered(sheet::put_balance(out, subject_text, unit_text, n.balance))
+            answered(writer::put_balance(out, subject_text, unit_text, n.balance))
         }
         ResourceState::MeteredResource(n) => {
             let subject = n.subject;
             let subject_text = part_text(subject, state, input);
-            answered(sheet::put_meter(out, subject_text, n.remaining, n.maximum))
+            answered(writer::put_meter(out, subject_text, n.remaining, n.maximum))
         }
     }
 }

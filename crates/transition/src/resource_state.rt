@@ -1,7 +1,7 @@
 // The states that operations make, with resource_state.rs's names. A text is named, not copied: it is written from the
 // sheet that has it.
 use amount::Amount;
-use profiles::error::ProfileError;
+use registry::error::ProfileError;
 
 // A text of the next state: that of a field of the state, or of the input.
 pub enum Part {

@@ -1,6 +1,6 @@
 use borrow.Author.Tests.{ne-eqb}
+use Rattle.registry.specs.Tests.{stateAbsent}
 use Rattle.profiles.specs.Balance.{balanceRules}
-use Rattle.profiles.specs.Tests.{stateAbsent}
 use borrow.Author.Needs.{needs}
 use Rattle.places.proofs.check_at.Statement.{statement}
 use Rattle.places.proofs.check_at.Tie as tie

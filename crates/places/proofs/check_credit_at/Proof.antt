@@ -1,6 +1,6 @@
-use Rattle.profiles.specs.Readers.{amountOf}
-use Rattle.profiles.specs.Tests.{stateThere}
-use Rattle.profiles.proofs.Tests.{then-end}
+use Rattle.registry.specs.Readers.{amountOf}
+use Rattle.registry.specs.Tests.{stateThere}
+use Rattle.registry.proofs.Tests.{then-end}
 use borrow.Author.Needs.{needs}
 use Rattle.places.proofs.check_credit_at.Statement.{statement}
 use Rattle.places.proofs.check_credit_at.Tie as tie

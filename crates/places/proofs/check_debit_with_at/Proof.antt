@@ -1,4 +1,4 @@
-use Rattle.profiles.specs.Tests.{stateThere}
+use Rattle.registry.specs.Tests.{stateThere}
 use borrow.Author.Needs.{needs}
 use Rattle.places.proofs.check_debit_with_at.Statement.{statement}
 use Rattle.places.proofs.check_debit_with_at.Tie as tie

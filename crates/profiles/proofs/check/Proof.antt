@@ -1,4 +1,5 @@
-use Rattle.profiles.specs.Check.{called, checkOf}
+use Rattle.registry.specs.Call.{called}
+use Rattle.profiles.specs.Check.{checkOf}
 use Rattle.profiles.proofs.Known.{stack-lists, balance-lists, meter-lists, no-profile}
 use borrow.Author.Needs.{needs}
 use Rattle.profiles.proofs.check.Statement.{statement}

@@ -48,13 +48,13 @@ use Rattle.book.specs.Book.{placeRecord}
 use Rattle.book.specs.Steps.{Act, answer, next}
 use Rattle.book.specs.declared.Book.{Book}
 use Rattle.book.specs.declared.Place.{Place}
-use Rattle.profiles.specs.declared.error.Answer.{Answer}
+use Rattle.registry.specs.declared.error.Answer.{Answer}
 use Rattle.steps.specs.Survey.{surveyOf, actStored}
 use Rattle.steps.specs.declared.survey.Survey.{Survey}
 use Rattle.steps.specs.declared.survey.ActStep.{ActStep}
 use Rattle.book.proofs.Book as T
 use Rattle.book.proofs.Place as P
-use Rattle.profiles.proofs.error.Answer as R
+use Rattle.registry.proofs.error.Answer as R
 use Rattle.steps.proofs.survey.Survey as S
 use Rattle.steps.proofs.survey.ActStep as D
 use Rattle.steps.proofs.survey.ActStep.Laws as D′
@@ -65,7 +65,7 @@ use Rattle.steps.proofs.act_step as g
 use Rattle.steps.proofs.act_step.Symbol as step-def
 use Rattle.steps.proofs.act_step.Symbol.{name as #step}
 use Rattle.steps.proofs.act_step.Met as step-thm
-use Rattle.credits.proofs.Lent.{Kind, struct-kind, number-kind, look-part, store-part, knows, value, also, result, leaves}
+use Rattle.credits.proofs.Lent.{Kind, struct-kind, number-kind, look-part, store-part, knows, value, also, result, leaves, alloc4, leaves4}
 use Rattle.credits.proofs.Books.{book-kind, place-kind, survey-kind, answer-kind, all-of, of-place, to-place, Surveys, surveys}
 use Rattle.credits.proofs.book_calls.credits_book_act.Key.{name as #self}
 use Rattle.credits.proofs.book_calls.credits_book_act as f
@@ -155,7 +155,7 @@ module _ {M : Type 1} (𝓤 : URA M) (H : Heap 𝓤) (A : Atoms 𝓤) (W : Given
           use1 W (‵ Own ⊛ ‵ Own) (shr-slice-copy 𝓤 H A W (named 1) κ′ u8 .twice s (u ∷ [])) $ split ! $ move ! (3 ∷ []) $ fsplit3 ! $ drop ! $ move ! (0 ∷ 1 ∷ 5 ∷ []) $
           -- [obs; the borrow; its token; what the slice owns, twice; true; its token]
           enter ! C Λ code.function (vptr b o ∷ vint w8 p ∷ vint w8 op ∷ u ∷ []) _ $
-          alloc1 ! (λ l0. alloc1 ! (λ l1. alloc1 ! (λ l2. alloc1 ! (λ l3. alloc1 ! (λ l4. alloc1 ! (λ l5. alloc1 ! (λ l6. alloc1 ! (λ l7. alloc1 ! (λ l8. alloc1 ! (λ l9. alloc1 ! (λ l10. alloc1 ! (λ l11. alloc1 ! (λ l12. alloc1 ! (λ l13. alloc1 ! (λ l14. alloc1 ! (λ l15. alloc1 ! (λ l16. alloc0 ! $ params1 ! $
+          alloc4 ! (λ l0 l1 l2 l3. alloc4 ! (λ l4 l5 l6 l7. alloc4 ! (λ l8 l9 l10 l11. alloc4 ! (λ l12 l13 l14 l15. alloc1 ! (λ l16. alloc0 ! $ params1 ! $
           pass1 ! (init ! 30 refl (tt, tt)) $ pass1 ! (init ! 28 refl (tt, record { fits = p-fits })) $ pass1 ! (init ! 26 refl (tt, record { fits = op-fits })) $ pass1 ! (init ! 24 refl (shr-slice-lawful 𝓤 H A W (named 1) κ′ u8 .typed s (u ∷ []) is-slice .0)) $ pass0 ! $
           move ! (34 ∷ 35 ∷ 36 ∷ 0 ∷ 2 ∷ 4 ∷ 6 ∷ 8 ∷ 10 ∷ 12 ∷ 14 ∷ 16 ∷ 18 ∷ 20 ∷ 22 ∷ 24 ∷ 26 ∷ 28 ∷ 30 ∷ 32 ∷ []) $ open-ref ! tt (mem T.the-row) {b = b} {o = o} $
           knows ! (book-kind W) (all-of W b o h) (λ was. knows ! (place-kind W) (of-place W b o h (p % 16) low) (λ is-held.
@@ -167,7 +167,7 @@ module _ {M : Type 1} (𝓤 : URA M) (H : Heap 𝓤) (A : Atoms 𝓤) (W : Given
           assigns ! (bin ! (value ! 18 refl) (lit ! tt) (lit< tt)) (from ! (stop !)) (init ! 10 refl (tt, record { fits = omega arith })) $
           assigns ! (un ! (value ! 10 refl) (record { fits = omega arith })) (from ! (stop !)) (init ! 14 refl (tt, record { fits = omega arith })) $
           assigns ! (bin ! (value ! 14 refl) (lit ! tt) (record { fits = omega arith })) (from ! (stop !)) (init ! 9 refl (tt, record { fits = omega arith })) $
-          assigns ! (addr ! (from ! (hop ! (look ! 19 refl) (fld ! refl (stop !))))) (from ! (stop !)) (init ! 8 refl (tt, tt)) $
+          assigns ! (addr ! (from ! (hop ! (look ! 19 refl) (fld ! {d = 40} refl (stop !))))) (from ! (stop !)) (init ! 8 refl (tt, tt)) $
           assigns ! (bin ! (value ! 8 refl) (value ! 9 refl) tt) (from ! (stop !)) (init ! 7 refl (tt, tt)) $
           assigns ! (of-opd ! (load ! (from ! (hop ! (look ! 7 refl) (stop !))) (look-part (place-kind W) ! 0 (of-place W b o h (p % 16) low) refl))) (from ! (stop !)) (init ! 6 refl (place-kind W .typed held is-held)) $
           assigns ! (of-opd ! (value ! 6 refl)) (from ! (stop !)) (init ! 13 refl (place-kind W .typed held is-held)) $
@@ -177,13 +177,13 @@ module _ {M : Type 1} (𝓤 : URA M) (H : Heap 𝓤) (A : Atoms 𝓤) (W : Given
           land ! (from ! (stop !)) (init ! 13 refl (step-kind .typed z is)) $
           -- the place is stored
           assigns ! (bin ! (value ! 15 refl) (lit ! tt) (record { fits = omega arith })) (from ! (stop !)) (store ! 10 refl (tt, record { fits = omega arith })) $
-          assigns ! (addr ! (from ! (hop ! (look ! 20 refl) (fld ! refl (stop !))))) (from ! (stop !)) (init ! 6 refl (tt, tt)) $
+          assigns ! (addr ! (from ! (hop ! (look ! 20 refl) (fld ! {d = 40} refl (stop !))))) (from ! (stop !)) (init ! 6 refl (tt, tt)) $
           assigns ! (bin ! (value ! 6 refl) (value ! 10 refl) tt) (from ! (stop !)) (init ! 5 refl (tt, tt)) $
-          assigns ! (of-opd ! (load ! (from ! (fld ! refl (stop !))) (look-in ! 13 (sub ! 1 refl (whole !))))) (from ! (hop ! (look ! 5 refl) (stop !))) (store-part (place-kind W) ! 1 (to-place W b o h (p % 16) (z .place) low) (place-is z is) refl) $
-          assigns ! (of-opd ! (load ! (from ! (fld ! refl (stop !))) (look-in ! 13 (sub ! 0 refl (whole !))))) (from ! (stop !)) (init ! 21 refl (answer-kind W .typed (z .answer) (answer-is z is))) $
+          assigns ! (of-opd ! (load ! (from ! (fld ! {d = 64} refl (stop !))) (look-in ! 13 (sub ! 1 refl (whole !))))) (from ! (hop ! (look ! 5 refl) (stop !))) (store-part (place-kind W) ! 1 (to-place W b o h (p % 16) (z .place) low) (place-is z is) refl) $
+          assigns ! (of-opd ! (load ! (from ! (fld ! {d = 0} refl (stop !))) (look-in ! 13 (sub ! 0 refl (whole !))))) (from ! (stop !)) (init ! 21 refl (answer-kind W .typed (z .answer) (answer-is z is))) $
           move ! (1 ∷ 2 ∷ 3 ∷ 4 ∷ []) $ close-ref ! tt (mem T.the-row) (left z) {b = b} {o = o} $
-          returns ! (look ! 20 refl) $ move ! (20 ∷ 37 ∷ 19 ∷ 36 ∷ 18 ∷ 35 ∷ 17 ∷ 34 ∷ 16 ∷ 33 ∷ 15 ∷ 32 ∷ 14 ∷ 31 ∷ 13 ∷ 30 ∷ 12 ∷ 29 ∷ 11 ∷ 28 ∷ 10 ∷ 27 ∷ 9 ∷ 26 ∷ 8 ∷ 25 ∷ 7 ∷ 24 ∷ 6 ∷ 23 ∷ 5 ∷ 22 ∷ 4 ∷ 21 ∷ []) $ leaves ! $ leaves ! $ leaves ! $ leaves ! $ leaves ! $ leaves ! $ leaves ! $ leaves ! $ leaves ! $ leaves ! $ leaves ! $ leaves ! $ leaves ! $ leaves ! $ leaves ! $ leaves ! $ leaves ! $ free0 ! $
-          keep ! (0 ∷ 1 ∷ 2 ∷ 3 ∷ 4 ∷ []) $ by ! (exits (z .answer) (left z) (met h e refl) (answer-is z is))))))))))))))))))))))))
+          returns ! (look ! 20 refl) $ move ! (20 ∷ 37 ∷ 19 ∷ 36 ∷ 18 ∷ 35 ∷ 17 ∷ 34 ∷ 16 ∷ 33 ∷ 15 ∷ 32 ∷ 14 ∷ 31 ∷ 13 ∷ 30 ∷ 12 ∷ 29 ∷ 11 ∷ 28 ∷ 10 ∷ 27 ∷ 9 ∷ 26 ∷ 8 ∷ 25 ∷ 7 ∷ 24 ∷ 6 ∷ 23 ∷ 5 ∷ 22 ∷ 4 ∷ 21 ∷ []) $ leaves4 ! $ leaves4 ! $ leaves4 ! $ leaves4 ! $ leaves ! $ free0 ! $
+          keep ! (0 ∷ 1 ∷ 2 ∷ 3 ∷ 4 ∷ []) $ by ! (exits (z .answer) (left z) (met h e refl) (answer-is z is))))))))))))
 
 module _ {M : Type 1} (𝓤 : URA M) (H : Heap 𝓤) (A : Atoms 𝓤) (W : Given 𝓤 H A) (at-mem : Memory → SProp 𝓤) (run : Routine → Fun 𝓤) where
   walks : (C : Calls 𝓤 H) (Λ : Loops 𝓤 H) → FmC 𝓤 H (W .laws) C → Triple 𝓤 (C #survey) (Surveys 𝓤 H A at-mem run) → Triple 𝓤 (C #step) (Steps 𝓤 H A at-mem run) → Walks 𝓤 H A f.ended stayed (WpFn 𝓤 H C Λ code.function) (f.clauses 𝓤 H A at-mem run)

@@ -50,14 +50,14 @@ use Rattle.book.specs.Steps.{Begin, answer, next}
 use Rattle.book.specs.declared.Book.{Book}
 use Rattle.book.specs.declared.Place.{Place}
 use Rattle.book.specs.declared.Transfer.{Transfer}
-use Rattle.profiles.specs.declared.error.Answer.{Answer}
+use Rattle.registry.specs.declared.error.Answer.{Answer}
 use Rattle.steps.specs.Survey.{surveyOf, transferStored}
 use Rattle.steps.specs.declared.survey.Survey.{Survey}
 use Rattle.steps.specs.declared.survey.TransferStep.{TransferStep}
 use Rattle.book.proofs.Book as T
 use Rattle.book.proofs.Place as P
 use Rattle.book.proofs.Transfer as Q
-use Rattle.profiles.proofs.error.Answer as R
+use Rattle.registry.proofs.error.Answer as R
 use Rattle.steps.proofs.survey.Survey as S
 use Rattle.steps.proofs.survey.TransferStep as D
 use Rattle.steps.proofs.survey.TransferStep.Laws as D′
@@ -68,7 +68,7 @@ use Rattle.steps.proofs.begin_step as g
 use Rattle.steps.proofs.begin_step.Symbol as step-def
 use Rattle.steps.proofs.begin_step.Symbol.{name as #step}
 use Rattle.steps.proofs.begin_step.Met as step-thm
-use Rattle.credits.proofs.Lent.{Kind, struct-kind, number-kind, look-part, store-part, knows, value, also, result, leaves}
+use Rattle.credits.proofs.Lent.{Kind, struct-kind, number-kind, look-part, store-part, knows, value, also, result, leaves, alloc4, leaves4}
 use Rattle.credits.proofs.Books.{book-kind, place-kind, transfer-kind, survey-kind, answer-kind, all-of, of-place, to-place, of-transfer, to-transfer, to-pending, Surveys, surveys}
 use Rattle.credits.proofs.book_calls.credits_book_begin.Key.{name as #self}
 use Rattle.credits.proofs.book_calls.credits_book_begin as f
@@ -182,7 +182,7 @@ module _ {M : Type 1} (𝓤 : URA M) (H : Heap 𝓤) (A : Atoms 𝓤) (W : Given
           use1 W (‵ Own ⊛ ‵ Own) (shr-slice-copy 𝓤 H A W (named 1) κ′ u8 .twice s (u ∷ [])) $ split ! $ move ! (3 ∷ []) $ fsplit3 ! $ drop ! $ move ! (0 ∷ 1 ∷ 5 ∷ []) $
           -- [obs; the borrow; its token; what the slice owns, twice; true; its token]
           enter ! C Λ code.function (vptr b o ∷ vint w8 src ∷ vint w8 dst ∷ vint w8 t ∷ u ∷ []) _ $
-          alloc1 ! (λ l0. alloc1 ! (λ l1. alloc1 ! (λ l2. alloc1 ! (λ l3. alloc1 ! (λ l4. alloc1 ! (λ l5. alloc1 ! (λ l6. alloc1 ! (λ l7. alloc1 ! (λ l8. alloc1 ! (λ l9. alloc1 ! (λ l10. alloc1 ! (λ l11. alloc1 ! (λ l12. alloc1 ! (λ l13. alloc1 ! (λ l14. alloc1 ! (λ l15. alloc1 ! (λ l16. alloc1 ! (λ l17. alloc1 ! (λ l18. alloc1 ! (λ l19. alloc1 ! (λ l20. alloc1 ! (λ l21. alloc1 ! (λ l22. alloc1 ! (λ l23. alloc1 ! (λ l24. alloc1 ! (λ l25. alloc1 ! (λ l26. alloc1 ! (λ l27. alloc1 ! (λ l28. alloc0 ! $ params1 ! $
+          alloc4 ! (λ l0 l1 l2 l3. alloc4 ! (λ l4 l5 l6 l7. alloc4 ! (λ l8 l9 l10 l11. alloc4 ! (λ l12 l13 l14 l15. alloc4 ! (λ l16 l17 l18 l19. alloc4 ! (λ l20 l21 l22 l23. alloc4 ! (λ l24 l25 l26 l27. alloc1 ! (λ l28. alloc0 ! $ params1 ! $
           pass1 ! (init ! 54 refl (tt, tt)) $ pass1 ! (init ! 52 refl (tt, record { fits = src-fits })) $ pass1 ! (init ! 50 refl (tt, record { fits = dst-fits })) $ pass1 ! (init ! 48 refl (tt, record { fits = t-fits })) $ pass1 ! (init ! 46 refl (shr-slice-lawful 𝓤 H A W (named 1) κ′ u8 .typed s (u ∷ []) is-slice .0)) $ pass0 ! $
           move ! (58 ∷ 59 ∷ 60 ∷ 0 ∷ 2 ∷ 4 ∷ 6 ∷ 8 ∷ 10 ∷ 12 ∷ 14 ∷ 16 ∷ 18 ∷ 20 ∷ 22 ∷ 24 ∷ 26 ∷ 28 ∷ 30 ∷ 32 ∷ 34 ∷ 36 ∷ 38 ∷ 40 ∷ 42 ∷ 44 ∷ 46 ∷ 48 ∷ 50 ∷ 52 ∷ 54 ∷ 56 ∷ []) $ open-ref ! tt (mem T.the-row) {b = b} {o = o} $
           knows ! (book-kind W) (all-of W b o h) (λ was. knows ! (place-kind W) (of-place W b o h (src % 16) low-src) (λ is-source. knows ! (place-kind W) (of-place W b o h (dst % 16) low-dst) (λ is-aim. knows ! (transfer-kind W) (of-transfer W b o h (t % 8) low-t) (λ is-moved.
@@ -194,7 +194,7 @@ module _ {M : Type 1} (𝓤 : URA M) (H : Heap 𝓤) (A : Atoms 𝓤) (W : Given
           assigns ! (bin ! (value ! 30 refl) (lit ! tt) (lit< tt)) (from ! (stop !)) (init ! 17 refl (tt, record { fits = omega arith })) $
           assigns ! (un ! (value ! 17 refl) (record { fits = omega arith })) (from ! (stop !)) (init ! 25 refl (tt, record { fits = omega arith })) $
           assigns ! (bin ! (value ! 25 refl) (lit ! tt) (record { fits = omega arith })) (from ! (stop !)) (init ! 16 refl (tt, record { fits = omega arith })) $
-          assigns ! (addr ! (from ! (hop ! (look ! 31 refl) (fld ! refl (stop !))))) (from ! (stop !)) (init ! 15 refl (tt, tt)) $
+          assigns ! (addr ! (from ! (hop ! (look ! 31 refl) (fld ! {d = 40} refl (stop !))))) (from ! (stop !)) (init ! 15 refl (tt, tt)) $
           assigns ! (bin ! (value ! 15 refl) (value ! 16 refl) tt) (from ! (stop !)) (init ! 14 refl (tt, tt)) $
           assigns ! (of-opd ! (load ! (from ! (hop ! (look ! 14 refl) (stop !))) (look-part (place-kind W) ! 0 (of-place W b o h (src % 16) low-src) refl))) (from ! (stop !)) (init ! 13 refl (place-kind W .typed source is-source)) $
           assigns ! (of-opd ! (value ! 13 refl)) (from ! (stop !)) (init ! 24 refl (place-kind W .typed source is-source)) $
@@ -202,7 +202,7 @@ module _ {M : Type 1} (𝓤 : URA M) (H : Heap 𝓤) (A : Atoms 𝓤) (W : Given
           assigns ! (bin ! (value ! 29 refl) (lit ! tt) (lit< tt)) (from ! (stop !)) (store ! 17 refl (tt, record { fits = omega arith })) $
           assigns ! (un ! (value ! 17 refl) (record { fits = omega arith })) (from ! (stop !)) (init ! 23 refl (tt, record { fits = omega arith })) $
           assigns ! (bin ! (value ! 23 refl) (lit ! tt) (record { fits = omega arith })) (from ! (stop !)) (store ! 16 refl (tt, record { fits = omega arith })) $
-          assigns ! (addr ! (from ! (hop ! (look ! 31 refl) (fld ! refl (stop !))))) (from ! (stop !)) (init ! 12 refl (tt, tt)) $
+          assigns ! (addr ! (from ! (hop ! (look ! 31 refl) (fld ! {d = 40} refl (stop !))))) (from ! (stop !)) (init ! 12 refl (tt, tt)) $
           assigns ! (bin ! (value ! 12 refl) (value ! 16 refl) tt) (from ! (stop !)) (init ! 11 refl (tt, tt)) $
           assigns ! (of-opd ! (load ! (from ! (hop ! (look ! 11 refl) (stop !))) (look-part (place-kind W) ! 0 (of-place W b o h (dst % 16) low-dst) refl))) (from ! (stop !)) (store ! 13 refl (place-kind W .typed aim is-aim)) $
           assigns ! (of-opd ! (value ! 13 refl)) (from ! (stop !)) (init ! 22 refl (place-kind W .typed aim is-aim)) $
@@ -210,7 +210,7 @@ module _ {M : Type 1} (𝓤 : URA M) (H : Heap 𝓤) (A : Atoms 𝓤) (W : Given
           assigns ! (bin ! (value ! 28 refl) (lit ! tt) (lit< tt)) (from ! (stop !)) (store ! 17 refl (tt, record { fits = omega arith })) $
           assigns ! (un ! (value ! 17 refl) (record { fits = omega arith })) (from ! (stop !)) (init ! 21 refl (tt, record { fits = omega arith })) $
           assigns ! (bin ! (value ! 21 refl) (lit ! tt) (record { fits = omega arith })) (from ! (stop !)) (store ! 16 refl (tt, record { fits = omega arith })) $
-          assigns ! (addr ! (from ! (hop ! (look ! 31 refl) (fld ! refl (stop !))))) (from ! (stop !)) (init ! 10 refl (tt, tt)) $
+          assigns ! (addr ! (from ! (hop ! (look ! 31 refl) (fld ! {d = 1064} refl (stop !))))) (from ! (stop !)) (init ! 10 refl (tt, tt)) $
           assigns ! (bin ! (value ! 10 refl) (value ! 16 refl) tt) (from ! (stop !)) (init ! 9 refl (tt, tt)) $
           assigns ! (of-opd ! (load ! (from ! (hop ! (look ! 9 refl) (stop !))) (look-part (transfer-kind W) ! 0 (of-transfer W b o h (t % 8) low-t) refl))) (from ! (stop !)) (init ! 8 refl (transfer-kind W .typed moved is-moved)) $
           assigns ! (of-opd ! (value ! 8 refl)) (from ! (stop !)) (init ! 20 refl (transfer-kind W .typed moved is-moved)) $
@@ -220,19 +220,19 @@ module _ {M : Type 1} (𝓤 : URA M) (H : Heap 𝓤) (A : Atoms 𝓤) (W : Given
           land ! (from ! (stop !)) (init ! 20 refl (step-kind .typed z is)) $
           -- the source is stored
           assigns ! (bin ! (value ! 26 refl) (lit ! tt) (record { fits = omega arith })) (from ! (stop !)) (store ! 17 refl (tt, record { fits = omega arith })) $
-          assigns ! (addr ! (from ! (hop ! (look ! 32 refl) (fld ! refl (stop !))))) (from ! (stop !)) (init ! 8 refl (tt, tt)) $
+          assigns ! (addr ! (from ! (hop ! (look ! 32 refl) (fld ! {d = 40} refl (stop !))))) (from ! (stop !)) (init ! 8 refl (tt, tt)) $
           assigns ! (bin ! (value ! 8 refl) (value ! 17 refl) tt) (from ! (stop !)) (init ! 7 refl (tt, tt)) $
-          assigns ! (of-opd ! (load ! (from ! (fld ! refl (stop !))) (look-in ! 20 (sub ! 1 refl (whole !))))) (from ! (hop ! (look ! 7 refl) (stop !))) (store-part (place-kind W) ! 1 (to-place W b o h (src % 16) (z .place) low-src) (place-is z is) refl) $
+          assigns ! (of-opd ! (load ! (from ! (fld ! {d = 64} refl (stop !))) (look-in ! 20 (sub ! 1 refl (whole !))))) (from ! (hop ! (look ! 7 refl) (stop !))) (store-part (place-kind W) ! 1 (to-place W b o h (src % 16) (z .place) low-src) (place-is z is) refl) $
           -- the transfer is stored, and the set
           assigns ! (bin ! (value ! 22 refl) (lit ! tt) (record { fits = omega arith })) (from ! (stop !)) (store ! 17 refl (tt, record { fits = omega arith })) $
-          assigns ! (addr ! (from ! (hop ! (look ! 32 refl) (fld ! refl (stop !))))) (from ! (stop !)) (init ! 6 refl (tt, tt)) $
+          assigns ! (addr ! (from ! (hop ! (look ! 32 refl) (fld ! {d = 1064} refl (stop !))))) (from ! (stop !)) (init ! 6 refl (tt, tt)) $
           assigns ! (bin ! (value ! 6 refl) (value ! 17 refl) tt) (from ! (stop !)) (init ! 5 refl (tt, tt)) $
-          assigns ! (of-opd ! (load ! (from ! (fld ! refl (stop !))) (look-in ! 20 (sub ! 2 refl (whole !))))) (from ! (hop ! (look ! 5 refl) (stop !))) (store-part (transfer-kind W) ! 1 (to-transfer W b o (placed z) (t % 8) (z .load) low-t) (load-is z is) refl) $
-          assigns ! (of-opd ! (load ! (from ! (fld ! refl (stop !))) (look-in ! 20 (sub ! 3 refl (whole !))))) (from ! (hop ! (look ! 32 refl) (fld ! refl (stop !)))) (store-part (number-kind W w8) ! 1 (to-pending W b o (loaded z) (z .pending)) (pending-is z is) refl) $
-          assigns ! (of-opd ! (load ! (from ! (fld ! refl (stop !))) (look-in ! 20 (sub ! 0 refl (whole !))))) (from ! (stop !)) (init ! 33 refl (answer-kind W .typed (z .answer) (answer-is z is))) $
+          assigns ! (of-opd ! (load ! (from ! (fld ! {d = 128} refl (stop !))) (look-in ! 20 (sub ! 2 refl (whole !))))) (from ! (hop ! (look ! 5 refl) (stop !))) (store-part (transfer-kind W) ! 1 (to-transfer W b o (placed z) (t % 8) (z .load) low-t) (load-is z is) refl) $
+          assigns ! (of-opd ! (load ! (from ! (fld ! {d = 160} refl (stop !))) (look-in ! 20 (sub ! 3 refl (whole !))))) (from ! (hop ! (look ! 32 refl) (fld ! {d = 36} refl (stop !)))) (store-part (number-kind W w8) ! 1 (to-pending W b o (loaded z) (z .pending)) (pending-is z is) refl) $
+          assigns ! (of-opd ! (load ! (from ! (fld ! {d = 0} refl (stop !))) (look-in ! 20 (sub ! 0 refl (whole !))))) (from ! (stop !)) (init ! 33 refl (answer-kind W .typed (z .answer) (answer-is z is))) $
           move ! (1 ∷ 2 ∷ 3 ∷ 4 ∷ []) $ close-ref ! tt (mem T.the-row) (left z) {b = b} {o = o} $
-          returns ! (look ! 32 refl) $ move ! (32 ∷ 61 ∷ 31 ∷ 60 ∷ 30 ∷ 59 ∷ 29 ∷ 58 ∷ 28 ∷ 57 ∷ 27 ∷ 56 ∷ 26 ∷ 55 ∷ 25 ∷ 54 ∷ 24 ∷ 53 ∷ 23 ∷ 52 ∷ 22 ∷ 51 ∷ 21 ∷ 50 ∷ 20 ∷ 49 ∷ 19 ∷ 48 ∷ 18 ∷ 47 ∷ 17 ∷ 46 ∷ 16 ∷ 45 ∷ 15 ∷ 44 ∷ 14 ∷ 43 ∷ 13 ∷ 42 ∷ 12 ∷ 41 ∷ 11 ∷ 40 ∷ 10 ∷ 39 ∷ 9 ∷ 38 ∷ 8 ∷ 37 ∷ 7 ∷ 36 ∷ 6 ∷ 35 ∷ 5 ∷ 34 ∷ 4 ∷ 33 ∷ []) $ leaves ! $ leaves ! $ leaves ! $ leaves ! $ leaves ! $ leaves ! $ leaves ! $ leaves ! $ leaves ! $ leaves ! $ leaves ! $ leaves ! $ leaves ! $ leaves ! $ leaves ! $ leaves ! $ leaves ! $ leaves ! $ leaves ! $ leaves ! $ leaves ! $ leaves ! $ leaves ! $ leaves ! $ leaves ! $ leaves ! $ leaves ! $ leaves ! $ leaves ! $ free0 ! $
-          keep ! (0 ∷ 1 ∷ 2 ∷ 3 ∷ 4 ∷ []) $ by ! (exits (z .answer) (left z) (met h e refl refl refl) (answer-is z is))))))))))))))))))))))))))))))))))))))
+          returns ! (look ! 32 refl) $ move ! (32 ∷ 61 ∷ 31 ∷ 60 ∷ 30 ∷ 59 ∷ 29 ∷ 58 ∷ 28 ∷ 57 ∷ 27 ∷ 56 ∷ 26 ∷ 55 ∷ 25 ∷ 54 ∷ 24 ∷ 53 ∷ 23 ∷ 52 ∷ 22 ∷ 51 ∷ 21 ∷ 50 ∷ 20 ∷ 49 ∷ 19 ∷ 48 ∷ 18 ∷ 47 ∷ 17 ∷ 46 ∷ 16 ∷ 45 ∷ 15 ∷ 44 ∷ 14 ∷ 43 ∷ 13 ∷ 42 ∷ 12 ∷ 41 ∷ 11 ∷ 40 ∷ 10 ∷ 39 ∷ 9 ∷ 38 ∷ 8 ∷ 37 ∷ 7 ∷ 36 ∷ 6 ∷ 35 ∷ 5 ∷ 34 ∷ 4 ∷ 33 ∷ []) $ leaves4 ! $ leaves4 ! $ leaves4 ! $ leaves4 ! $ leaves4 ! $ leaves4 ! $ leaves4 ! $ leaves ! $ free0 ! $
+          keep ! (0 ∷ 1 ∷ 2 ∷ 3 ∷ 4 ∷ []) $ by ! (exits (z .answer) (left z) (met h e refl refl refl) (answer-is z is)))))))))))))))))
 
 module _ {M : Type 1} (𝓤 : URA M) (H : Heap 𝓤) (A : Atoms 𝓤) (W : Given 𝓤 H A) (at-mem : Memory → SProp 𝓤) (run : Routine → Fun 𝓤) where
   walks : (C : Calls 𝓤 H) (Λ : Loops 𝓤 H) → FmC 𝓤 H (W .laws) C → Triple 𝓤 (C #survey) (Surveys 𝓤 H A at-mem run) → Triple 𝓤 (C #step) (Steps 𝓤 H A at-mem run) → Walks 𝓤 H A f.ended stayed (WpFn 𝓤 H C Λ code.function) (f.clauses 𝓤 H A at-mem run)

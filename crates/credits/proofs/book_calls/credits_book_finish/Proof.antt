@@ -49,14 +49,14 @@ use Rattle.book.specs.Steps.{Finish, answer, next}
 use Rattle.book.specs.declared.Book.{Book}
 use Rattle.book.specs.declared.Place.{Place}
 use Rattle.book.specs.declared.Transfer.{Transfer}
-use Rattle.profiles.specs.declared.error.Answer.{Answer}
+use Rattle.registry.specs.declared.error.Answer.{Answer}
 use Rattle.steps.specs.Survey.{surveyOf, transferStored}
 use Rattle.steps.specs.declared.survey.Survey.{Survey}
 use Rattle.steps.specs.declared.survey.TransferStep.{TransferStep}
 use Rattle.book.proofs.Book as T
 use Rattle.book.proofs.Place as P
 use Rattle.book.proofs.Transfer as Q
-use Rattle.profiles.proofs.error.Answer as R
+use Rattle.registry.proofs.error.Answer as R
 use Rattle.steps.proofs.survey.Survey as S
 use Rattle.steps.proofs.survey.TransferStep as D
 use Rattle.steps.proofs.survey.TransferStep.Laws as D′
@@ -67,7 +67,7 @@ use Rattle.steps.proofs.finish_step as g
 use Rattle.steps.proofs.finish_step.Symbol as step-def
 use Rattle.steps.proofs.finish_step.Symbol.{name as #step}
 use Rattle.steps.proofs.finish_step.Met as step-thm
-use Rattle.credits.proofs.Lent.{Kind, struct-kind, number-kind, look-part, store-part, knows, value, also, result, leaves}
+use Rattle.credits.proofs.Lent.{Kind, struct-kind, number-kind, look-part, store-part, knows, value, also, result, leaves, alloc4, leaves4}
 use Rattle.credits.proofs.Books.{book-kind, place-kind, transfer-kind, survey-kind, answer-kind, all-of, of-place, to-place, of-transfer, to-transfer, to-pending, Surveys, surveys}
 use Rattle.credits.proofs.book_calls.credits_book_finish.Key.{name as #self}
 use Rattle.credits.proofs.book_calls.credits_book_finish as f
@@ -165,7 +165,7 @@ module _ {M : Type 1} (𝓤 : URA M) (H : Heap 𝓤) (A : Atoms 𝓤) (W : Given
           qed W ((‵ (flft κ q) ⊛ ‵ ftrue) ∷ ‵ (owns (MutRef (named 0) κ T.the-row ∷ u8 ∷ []) x at) ∷ []) ∵ split ! $ move ! (2 ∷ []) $ fsplit ! $ fsplit3 ! $ drop ! $ move ! (0 ∷ 1 ∷ 3 ∷ []) $
           -- [obs; the borrow; its token; ..]
           enter ! C Λ code.function (vptr b o ∷ vint w8 t ∷ []) _ $
-          alloc1 ! (λ l0. alloc1 ! (λ l1. alloc1 ! (λ l2. alloc1 ! (λ l3. alloc1 ! (λ l4. alloc1 ! (λ l5. alloc1 ! (λ l6. alloc1 ! (λ l7. alloc1 ! (λ l8. alloc1 ! (λ l9. alloc1 ! (λ l10. alloc1 ! (λ l11. alloc1 ! (λ l12. alloc1 ! (λ l13. alloc1 ! (λ l14. alloc1 ! (λ l15. alloc1 ! (λ l16. alloc1 ! (λ l17. alloc1 ! (λ l18. alloc1 ! (λ l19. alloc1 ! (λ l20. alloc1 ! (λ l21. alloc0 ! $ params1 ! $
+          alloc4 ! (λ l0 l1 l2 l3. alloc4 ! (λ l4 l5 l6 l7. alloc4 ! (λ l8 l9 l10 l11. alloc4 ! (λ l12 l13 l14 l15. alloc4 ! (λ l16 l17 l18 l19. alloc1 ! (λ l20. alloc1 ! (λ l21. alloc0 ! $ params1 ! $
           pass1 ! (init ! 40 refl (tt, tt)) $ pass1 ! (init ! 38 refl (tt, record { fits = t-fits })) $ pass0 ! $
           move ! (44 ∷ 45 ∷ 46 ∷ 0 ∷ 2 ∷ 4 ∷ 6 ∷ 8 ∷ 10 ∷ 12 ∷ 14 ∷ 16 ∷ 18 ∷ 20 ∷ 22 ∷ 24 ∷ 26 ∷ 28 ∷ 30 ∷ 32 ∷ 34 ∷ 36 ∷ 38 ∷ 40 ∷ 42 ∷ []) $ open-ref ! tt (mem T.the-row) {b = b} {o = o} $
           knows ! (book-kind W) (all-of W b o h) (λ was. knows ! (transfer-kind W) (of-transfer W b o h (t % 8) low-t) (λ is-moved. knows ! (place-kind W) (of-place W b o h (moved .to % 16) (mod-lt (moved .to) (lit< tt))) (λ is-held.
@@ -177,15 +177,15 @@ module _ {M : Type 1} (𝓤 : URA M) (H : Heap 𝓤) (A : Atoms 𝓤) (W : Given
           assigns ! (bin ! (value ! 23 refl) (lit ! tt) (lit< tt)) (from ! (stop !)) (init ! 15 refl (tt, record { fits = omega arith })) $
           assigns ! (un ! (value ! 15 refl) (record { fits = omega arith })) (from ! (stop !)) (init ! 21 refl (tt, record { fits = omega arith })) $
           assigns ! (bin ! (value ! 21 refl) (lit ! tt) (record { fits = omega arith })) (from ! (stop !)) (init ! 14 refl (tt, record { fits = omega arith })) $
-          assigns ! (addr ! (from ! (hop ! (look ! 24 refl) (fld ! refl (stop !))))) (from ! (stop !)) (init ! 13 refl (tt, tt)) $
+          assigns ! (addr ! (from ! (hop ! (look ! 24 refl) (fld ! {d = 1064} refl (stop !))))) (from ! (stop !)) (init ! 13 refl (tt, tt)) $
           assigns ! (bin ! (value ! 13 refl) (value ! 14 refl) tt) (from ! (stop !)) (init ! 12 refl (tt, tt)) $
           assigns ! (of-opd ! (load ! (from ! (hop ! (look ! 12 refl) (stop !))) (look-part (transfer-kind W) ! 0 (of-transfer W b o h (t % 8) low-t) refl))) (from ! (stop !)) (init ! 11 refl (transfer-kind W .typed moved is-moved)) $
           assigns ! (of-opd ! (value ! 11 refl)) (from ! (stop !)) (init ! 20 refl (transfer-kind W .typed moved is-moved)) $
           -- `held` is read
-          assigns ! (bin ! (load ! (from ! (fld ! refl (stop !))) (look-in ! 20 (sub ! 1 refl (whole !)))) (lit ! tt) (lit< tt)) (from ! (stop !)) (store ! 15 refl (tt, record { fits = omega arith })) $
+          assigns ! (bin ! (load ! (from ! (fld ! {d = 1} refl (stop !))) (look-in ! 20 (sub ! 1 refl (whole !)))) (lit ! tt) (lit< tt)) (from ! (stop !)) (store ! 15 refl (tt, record { fits = omega arith })) $
           assigns ! (un ! (value ! 15 refl) (record { fits = omega arith })) (from ! (stop !)) (init ! 19 refl (tt, record { fits = omega arith })) $
           assigns ! (bin ! (value ! 19 refl) (lit ! tt) (record { fits = omega arith })) (from ! (stop !)) (store ! 14 refl (tt, record { fits = omega arith })) $
-          assigns ! (addr ! (from ! (hop ! (look ! 24 refl) (fld ! refl (stop !))))) (from ! (stop !)) (init ! 10 refl (tt, tt)) $
+          assigns ! (addr ! (from ! (hop ! (look ! 24 refl) (fld ! {d = 40} refl (stop !))))) (from ! (stop !)) (init ! 10 refl (tt, tt)) $
           assigns ! (bin ! (value ! 10 refl) (value ! 14 refl) tt) (from ! (stop !)) (init ! 9 refl (tt, tt)) $
           assigns ! (of-opd ! (load ! (from ! (hop ! (look ! 9 refl) (stop !))) (look-part (place-kind W) ! 0 (of-place W b o h (moved .to % 16) (mod-lt (moved .to) (lit< tt))) refl))) (from ! (stop !)) (init ! 8 refl (place-kind W .typed held is-held)) $
           assigns ! (of-opd ! (value ! 8 refl)) (from ! (stop !)) (init ! 18 refl (place-kind W .typed held is-held)) $
@@ -194,19 +194,19 @@ module _ {M : Type 1} (𝓤 : URA M) (H : Heap 𝓤) (A : Atoms 𝓤) (W : Given
           drop ! $ land ! (from ! (stop !)) (init ! 17 refl (step-kind .typed z is)) $
           -- the destination is stored
           assigns ! (bin ! (value ! 19 refl) (lit ! tt) (record { fits = omega arith })) (from ! (stop !)) (store ! 14 refl (tt, record { fits = omega arith })) $
-          assigns ! (addr ! (from ! (hop ! (look ! 24 refl) (fld ! refl (stop !))))) (from ! (stop !)) (init ! 7 refl (tt, tt)) $
+          assigns ! (addr ! (from ! (hop ! (look ! 24 refl) (fld ! {d = 40} refl (stop !))))) (from ! (stop !)) (init ! 7 refl (tt, tt)) $
           assigns ! (bin ! (value ! 7 refl) (value ! 14 refl) tt) (from ! (stop !)) (init ! 6 refl (tt, tt)) $
-          assigns ! (of-opd ! (load ! (from ! (fld ! refl (stop !))) (look-in ! 17 (sub ! 1 refl (whole !))))) (from ! (hop ! (look ! 6 refl) (stop !))) (store-part (place-kind W) ! 0 (to-place W b o h (moved .to % 16) (z .place) (mod-lt (moved .to) (lit< tt))) (place-is z is) refl) $
+          assigns ! (of-opd ! (load ! (from ! (fld ! {d = 64} refl (stop !))) (look-in ! 17 (sub ! 1 refl (whole !))))) (from ! (hop ! (look ! 6 refl) (stop !))) (store-part (place-kind W) ! 0 (to-place W b o h (moved .to % 16) (z .place) (mod-lt (moved .to) (lit< tt))) (place-is z is) refl) $
           -- the transfer is stored, and the set
           assigns ! (bin ! (value ! 21 refl) (lit ! tt) (record { fits = omega arith })) (from ! (stop !)) (store ! 14 refl (tt, record { fits = omega arith })) $
-          assigns ! (addr ! (from ! (hop ! (look ! 24 refl) (fld ! refl (stop !))))) (from ! (stop !)) (init ! 5 refl (tt, tt)) $
+          assigns ! (addr ! (from ! (hop ! (look ! 24 refl) (fld ! {d = 1064} refl (stop !))))) (from ! (stop !)) (init ! 5 refl (tt, tt)) $
           assigns ! (bin ! (value ! 5 refl) (value ! 14 refl) tt) (from ! (stop !)) (init ! 4 refl (tt, tt)) $
-          assigns ! (of-opd ! (load ! (from ! (fld ! refl (stop !))) (look-in ! 17 (sub ! 2 refl (whole !))))) (from ! (hop ! (look ! 4 refl) (stop !))) (store-part (transfer-kind W) ! 0 (to-transfer W b o (placed z) (t % 8) (z .load) low-t) (load-is z is) refl) $
-          assigns ! (of-opd ! (load ! (from ! (fld ! refl (stop !))) (look-in ! 17 (sub ! 3 refl (whole !))))) (from ! (hop ! (look ! 24 refl) (fld ! refl (stop !)))) (store-part (number-kind W w8) ! 0 (to-pending W b o (loaded z) (z .pending)) (pending-is z is) refl) $
-          assigns ! (of-opd ! (load ! (from ! (fld ! refl (stop !))) (look-in ! 17 (sub ! 0 refl (whole !))))) (from ! (stop !)) (init ! 25 refl (answer-kind W .typed (z .answer) (answer-is z is))) $
+          assigns ! (of-opd ! (load ! (from ! (fld ! {d = 128} refl (stop !))) (look-in ! 17 (sub ! 2 refl (whole !))))) (from ! (hop ! (look ! 4 refl) (stop !))) (store-part (transfer-kind W) ! 0 (to-transfer W b o (placed z) (t % 8) (z .load) low-t) (load-is z is) refl) $
+          assigns ! (of-opd ! (load ! (from ! (fld ! {d = 160} refl (stop !))) (look-in ! 17 (sub ! 3 refl (whole !))))) (from ! (hop ! (look ! 24 refl) (fld ! {d = 36} refl (stop !)))) (store-part (number-kind W w8) ! 0 (to-pending W b o (loaded z) (z .pending)) (pending-is z is) refl) $
+          assigns ! (of-opd ! (load ! (from ! (fld ! {d = 0} refl (stop !))) (look-in ! 17 (sub ! 0 refl (whole !))))) (from ! (stop !)) (init ! 25 refl (answer-kind W .typed (z .answer) (answer-is z is))) $
           close-ref ! tt (mem T.the-row) (left z) {b = b} {o = o} $
-          returns ! (look ! 24 refl) $ move ! (24 ∷ 46 ∷ 23 ∷ 45 ∷ 22 ∷ 44 ∷ 21 ∷ 43 ∷ 20 ∷ 42 ∷ 19 ∷ 41 ∷ 18 ∷ 40 ∷ 17 ∷ 39 ∷ 16 ∷ 38 ∷ 15 ∷ 37 ∷ 14 ∷ 36 ∷ 13 ∷ 35 ∷ 12 ∷ 34 ∷ 11 ∷ 33 ∷ 10 ∷ 32 ∷ 9 ∷ 31 ∷ 8 ∷ 30 ∷ 7 ∷ 29 ∷ 6 ∷ 28 ∷ 5 ∷ 27 ∷ 4 ∷ 26 ∷ 3 ∷ 25 ∷ []) $ leaves ! $ leaves ! $ leaves ! $ leaves ! $ leaves ! $ leaves ! $ leaves ! $ leaves ! $ leaves ! $ leaves ! $ leaves ! $ leaves ! $ leaves ! $ leaves ! $ leaves ! $ leaves ! $ leaves ! $ leaves ! $ leaves ! $ leaves ! $ leaves ! $ leaves ! $ free0 ! $
-          keep ! (0 ∷ 1 ∷ 2 ∷ []) $ by ! (exits (z .answer) (left z) (met h e refl refl) (answer-is z is))))))))))))))))))))))))))))))
+          returns ! (look ! 24 refl) $ move ! (24 ∷ 46 ∷ 23 ∷ 45 ∷ 22 ∷ 44 ∷ 21 ∷ 43 ∷ 20 ∷ 42 ∷ 19 ∷ 41 ∷ 18 ∷ 40 ∷ 17 ∷ 39 ∷ 16 ∷ 38 ∷ 15 ∷ 37 ∷ 14 ∷ 36 ∷ 13 ∷ 35 ∷ 12 ∷ 34 ∷ 11 ∷ 33 ∷ 10 ∷ 32 ∷ 9 ∷ 31 ∷ 8 ∷ 30 ∷ 7 ∷ 29 ∷ 6 ∷ 28 ∷ 5 ∷ 27 ∷ 4 ∷ 26 ∷ 3 ∷ 25 ∷ []) $ leaves4 ! $ leaves4 ! $ leaves4 ! $ leaves4 ! $ leaves4 ! $ leaves ! $ leaves ! $ free0 ! $
+          keep ! (0 ∷ 1 ∷ 2 ∷ []) $ by ! (exits (z .answer) (left z) (met h e refl refl) (answer-is z is)))))))))))))))
 
 module _ {M : Type 1} (𝓤 : URA M) (H : Heap 𝓤) (A : Atoms 𝓤) (W : Given 𝓤 H A) (at-mem : Memory → SProp 𝓤) (run : Routine → Fun 𝓤) where
   walks : (C : Calls 𝓤 H) (Λ : Loops 𝓤 H) → FmC 𝓤 H (W .laws) C → Triple 𝓤 (C #survey) (Surveys 𝓤 H A at-mem run) → Triple 𝓤 (C #step) (Steps 𝓤 H A at-mem run) → Walks 𝓤 H A f.ended stayed (WpFn 𝓤 H C Λ code.function) (f.clauses 𝓤 H A at-mem run)

@@ -1,6 +1,6 @@
 use borrow.Author.Tests.{ne-eqb}
+use Rattle.registry.proofs.Tests.{then-end}
 use Rattle.profiles.specs.Stack.{stackRules}
-use Rattle.profiles.proofs.Tests.{then-end}
 use borrow.Author.Needs.{needs}
 use Rattle.profiles.proofs.consumable_stack.check.Statement.{statement}
 use Rattle.profiles.proofs.consumable_stack.check.Tie as tie

@@ -1,4 +1,4 @@
-use Rattle.profiles.proofs.Tests.{then-end}
+use Rattle.registry.proofs.Tests.{then-end}
 use borrow.Author.Needs.{needs}
 use Rattle.profiles.proofs.consumable_stack.check_release.Statement.{statement}
 use Rattle.profiles.proofs.consumable_stack.check_release.Tie as tie

@@ -1,4 +1,4 @@
-use Rattle.profiles.proofs.Tests.{then-end}
+use Rattle.registry.proofs.Tests.{then-end}
 use borrow.Author.Needs.{needs}
 use Rattle.profiles.proofs.fungible_balance.require_credited.Statement.{statement}
 use Rattle.profiles.proofs.fungible_balance.require_credited.Tie as tie

@@ -1,7 +1,7 @@
 use borrow.Author.Tests.{ne-eqb}
 use mathlib.Core.List.{[]}
+use Rattle.registry.proofs.Tests.{then-end}
 use Rattle.profiles.specs.Meter.{meterRules}
-use Rattle.profiles.proofs.Tests.{then-end}
 use borrow.Author.Needs.{needs}
 use Rattle.profiles.proofs.meter.check.Statement.{statement}
 use Rattle.profiles.proofs.meter.check.Tie as tie

@@ -1,4 +1,4 @@
-use Rattle.profiles.proofs.Tests.{then-end}
+use Rattle.registry.proofs.Tests.{then-end}
 use borrow.Author.Needs.{needs}
 use Rattle.profiles.proofs.meter.check_create.Statement.{statement}
 use Rattle.profiles.proofs.meter.check_create.Tie as tie

@@ -1,4 +1,4 @@
-use Rattle.profiles.specs.Tests.{in-amount}
+use Rattle.registry.specs.Tests.{in-amount}
 use mathlib.Core.List.{[], _∷_}
 use Rattle.transition.specs.Next.{given}
 use Rattle.transition.specs.Apply.{holding}

@@ -1,5 +1,5 @@
-use Rattle.profiles.specs.declared.error.ProfileError.the-variants.{Overflow}
-use Rattle.profiles.specs.Readers.{givenOr}
+use Rattle.registry.specs.declared.error.ProfileError.the-variants.{Overflow}
+use Rattle.registry.specs.Readers.{givenOr}
 use Rattle.transition.proofs.Laws.{read-last}
 use mathlib.Core.Path.{ap, _∙_}
 use borrow.Author.Needs.{needs}

@@ -1,4 +1,4 @@
-use Rattle.profiles.proofs.Tests.{then-end}
+use Rattle.registry.proofs.Tests.{then-end}
 use borrow.Author.Needs.{needs}
 use Rattle.transition.proofs.amounts.require_texts.Statement.{statement}
 use Rattle.transition.proofs.amounts.require_texts.Tie as tie

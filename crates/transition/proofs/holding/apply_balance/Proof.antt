@@ -1,5 +1,5 @@
 use mathlib.Core.List.{[], _∷_, _++_}
-use Rattle.profiles.specs.Tests.{born, in-text, in-amount, st-text}
+use Rattle.registry.specs.Tests.{born, in-text, in-amount, st-text}
 use Rattle.transition.specs.Next.{given, sum, difference, balanceOf}
 use Rattle.transition.specs.Apply.{holding, raising, lowering, balanceNext}
 use Rattle.transition.specs.declared.resource_state.Part.the-variants.{State, Input}

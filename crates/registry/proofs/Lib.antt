@@ -1,0 +1,3 @@
+-- The laws of the definitions, which the proofs cite.
+pub mod Readers
+pub mod Tests
