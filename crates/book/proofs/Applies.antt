@@ -22,13 +22,13 @@ use Rattle.registry.specs.declared.error.Reading.the-variants.{Given, Failed}
 use Rattle.profiles.specs.Balance.{credited, debited, balanceRules}
 use Rattle.places.specs.Places.{placeView, closedView}
 use Rattle.places.proofs.Accepted.{then-both}
-use Rattle.transition.specs.Next.{balanceOf}
-use Rattle.transition.specs.Apply.{balanceNext}
+use Rattle.resource_state.specs.Next.{balanceOf}
+use Rattle.resource_state.specs.Apply.{balanceNext}
 use Rattle.transition.specs.Credit.{creditBy}
-use Rattle.transition.specs.declared.resource_state.Part.{Part}
-use Rattle.transition.specs.declared.resource_state.Part.the-variants.{State, Input}
-use Rattle.transition.specs.declared.resource_state.Next.{Next}
-use Rattle.transition.specs.declared.resource_state.Next.the-variants as Next
+use Rattle.resource_state.specs.declared.Part.{Part}
+use Rattle.resource_state.specs.declared.Part.the-variants.{State, Input}
+use Rattle.resource_state.specs.declared.Next.{Next}
+use Rattle.resource_state.specs.declared.Next.the-variants as Next
 use Rattle.book.specs.Book.{credits, wholeAmount, nameBytes, nameOk, placeRecord, transferRecord, placeAt, transferAt, isSome, transferOk}
 use Rattle.book.specs.Steps.{Open, Act, Begin, Finish, creditsIn, adds, acts, changed, seen, sentTo, heldAt, answer}
 use Rattle.book.specs.declared.Name.{Name}

@@ -63,7 +63,8 @@ module _ {M : Type 1} {𝓤 : URA M} {H : Heap 𝓤} {A : Atoms 𝓤} (W : Given
   abbrev pub answer-kind : Kind W R.the-row
   answer-kind = struct-kind W R.the-type R′.the-laws R′.the-plain
 
--- where they lie in a book at o
+-- Where they lie in a book at o. A walk writes out where a field begins, as `{d = 40}`: what antt finds for it by itself is left
+-- uncomputed, and stands in every line that follows.
 abbrev pub place-at : ℕ → ℕ → ℕ
 place-at o p = p * 64 + (o + 40)
 

@@ -176,13 +176,18 @@ module _ {M : Type 1} {𝓤 : URA M} {H : Heap 𝓤} {A : Atoms 𝓤} {K : Type 
   pub leaves : K → {τ : Ty} {l : ℕ} {v : Val} {E : Env 𝓤 H} {G : Goal 𝓤 H} → Step K W Γ (frees E G) (‵ (fat fullShare τ l zero v) ∷ ‵ (fdies τ l) ∷ Γ) (frees ((τ, l) ∷ E) G)
   leaves t {τ} {l} {v} = step (λ s. use1 W (‵ (froom τ l zero)) (W .laws .at-room τ l zero v) $ free1 t $ s)
 
-  -- four locals at once
+-- ---- four locals at once
+
+module _ {M : Type 1} {𝓤 : URA M} {H : Heap 𝓤} {A : Atoms 𝓤} {K : Type 0} {W : Given 𝓤 H A} {Γ : List (Item 𝓤)} where
   pub alloc4 : K → {τ₀ τ₁ τ₂ τ₃ : Ty} {h₀ h₁ h₂ h₃ : Home} {ls : List Local} {Kt : Env 𝓤 H → Goal 𝓤 H}
-      → ((l₀ l₁ l₂ l₃ : ℕ) → Seq K W (‵ (froom τ₃ l₃ zero) ∷ ‵ (fdies τ₃ l₃) ∷ ‵ (froom τ₂ l₂ zero) ∷ ‵ (fdies τ₂ l₂) ∷ ‵ (froom τ₁ l₁ zero) ∷ ‵ (fdies τ₁ l₁) ∷ ‵ (froom τ₀ l₀ zero) ∷ ‵ (fdies τ₀ l₀) ∷ Γ) (allocs ls (λ E. Kt ((τ₀, l₀) ∷ (τ₁, l₁) ∷ (τ₂, l₂) ∷ (τ₃, l₃) ∷ E))))
+      → ((l₀ l₁ l₂ l₃ : ℕ)
+      → Seq K W (‵ (froom τ₃ l₃ zero) ∷ ‵ (fdies τ₃ l₃) ∷ ‵ (froom τ₂ l₂ zero) ∷ ‵ (fdies τ₂ l₂) ∷ ‵ (froom τ₁ l₁ zero) ∷ ‵ (fdies τ₁ l₁) ∷ ‵ (froom τ₀ l₀ zero) ∷ ‵ (fdies τ₀ l₀) ∷ Γ)
+      (allocs ls (λ E. Kt ((τ₀, l₀) ∷ (τ₁, l₁) ∷ (τ₂, l₂) ∷ (τ₃, l₃) ∷ E))))
       → Seq K W Γ (allocs (local τ₀ h₀ ∷ local τ₁ h₁ ∷ local τ₂ h₂ ∷ local τ₃ h₃ ∷ ls) Kt)
   alloc4 t k = alloc1 t (λ l₀. alloc1 t (λ l₁. alloc1 t (λ l₂. alloc1 t (λ l₃. k l₀ l₁ l₂ l₃))))
 
   pub leaves4 : K → {τ₀ τ₁ τ₂ τ₃ : Ty} {l₀ l₁ l₂ l₃ : ℕ} {v₀ v₁ v₂ v₃ : Val} {E : Env 𝓤 H} {G : Goal 𝓤 H}
-      → Step K W Γ (frees E G) (‵ (fat fullShare τ₀ l₀ zero v₀) ∷ ‵ (fdies τ₀ l₀) ∷ ‵ (fat fullShare τ₁ l₁ zero v₁) ∷ ‵ (fdies τ₁ l₁) ∷ ‵ (fat fullShare τ₂ l₂ zero v₂) ∷ ‵ (fdies τ₂ l₂) ∷ ‵ (fat fullShare τ₃ l₃ zero v₃) ∷ ‵ (fdies τ₃ l₃) ∷ Γ)
+      → Step K W Γ (frees E G)
+      (‵ (fat fullShare τ₀ l₀ zero v₀) ∷ ‵ (fdies τ₀ l₀) ∷ ‵ (fat fullShare τ₁ l₁ zero v₁) ∷ ‵ (fdies τ₁ l₁) ∷ ‵ (fat fullShare τ₂ l₂ zero v₂) ∷ ‵ (fdies τ₂ l₂) ∷ ‵ (fat fullShare τ₃ l₃ zero v₃) ∷ ‵ (fdies τ₃ l₃) ∷ Γ)
       (frees ((τ₀, l₀) ∷ (τ₁, l₁) ∷ (τ₂, l₂) ∷ (τ₃, l₃) ∷ E) G)
-  leaves4 t = step (λ s. use1 W (‵ (froom _ _ zero)) (W .laws .at-room _ _ zero _) $ free1 t $ use1 W (‵ (froom _ _ zero)) (W .laws .at-room _ _ zero _) $ free1 t $ use1 W (‵ (froom _ _ zero)) (W .laws .at-room _ _ zero _) $ free1 t $ use1 W (‵ (froom _ _ zero)) (W .laws .at-room _ _ zero _) $ free1 t $ s)
+  leaves4 t = step (λ s. leaves t $ leaves t $ leaves t $ leaves t $ s)

@@ -1,5 +1,5 @@
-// Prints the listing of each example: standard input is every session of examples/ in the order of their names, each behind
-// its length of 16 bits. tools/example_cases joins them.
+// Prints the listing of each example, by the exported function: standard input is every session of examples/ in the order of
+// their names, each behind its length of 16 bits. tools/example_cases joins them.
 ghost use Prim.Native.Nat.{_≤_};
 ghost use lib.ListN.{length};
 use libc::STDIN_FILENO;
@@ -8,7 +8,7 @@ use libc::STDOUT_FILENO;
 // Prints one session's listing.
 fn print(session: &[u8]) {
     let mut out = io::buffer();
-    let len = report::listing(session, &mut out) as usize;
+    let len = credits::session_calls::credits_session_listing(session, &mut out) as usize;
     io::write_all(STDOUT_FILENO, &out[..len]);
 }
 

@@ -23,12 +23,12 @@ use Rattle.registry.specs.declared.error.Outcome.the-variants.{Accepted, Refuse
 use Rattle.registry.specs.Readers.{bytesOf}
 use Rattle.registry.proofs.Readers.{no-bytes}
 use Rattle.writer.specs.declared.Put.the-variants as Put
-use Rattle.transition.specs.Next.{textFrom, sheetOf}
+use Rattle.resource_state.specs.Next.{textFrom, sheetOf}
 use Rattle.transition.specs.Written.{ShortTexts, PutFits}
-use Rattle.transition.specs.declared.resource_state.Part.{Part}
-use Rattle.transition.specs.declared.resource_state.Part.the-variants as Part
-use Rattle.transition.specs.declared.resource_state.ResourceState.{ResourceState}
-use Rattle.transition.specs.declared.resource_state.ResourceState.the-variants.{ConsumableStack, FungibleBalance, MeteredResource}
+use Rattle.resource_state.specs.declared.Part.{Part}
+use Rattle.resource_state.specs.declared.Part.the-variants as Part
+use Rattle.resource_state.specs.declared.ResourceState.{ResourceState}
+use Rattle.resource_state.specs.declared.ResourceState.the-variants.{ConsumableStack, FungibleBalance, MeteredResource}
 
 -- one field
 kind-short : (t : Bool) (kind : ℕ) (body : List ℕ) → eqb kind 1 ≡ t → lengthFits kind (length body) ≡ true → length (bytesOf (fieldOfKind kind body)) ≤ 256

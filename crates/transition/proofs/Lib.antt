@@ -1,3 +1,2 @@
 -- The laws of the definitions, which the proofs cite.
-pub mod Laws
 pub mod Lengths

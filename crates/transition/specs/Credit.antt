@@ -16,11 +16,11 @@ use Rattle.registry.specs.declared.error.Outcome.{Outcome}
 use Rattle.registry.specs.declared.error.Outcome.the-variants.{Accepted, Refused}
 use Rattle.registry.specs.declared.error.Reading.{Reading}
 use Rattle.registry.specs.declared.error.Reading.the-variants.{Given, Failed}
-use Rattle.transition.specs.Next.{stackOf, balanceOf, unlessRefused, withAmount}
-use Rattle.transition.specs.declared.resource_state.Part.the-variants.{State, Input}
-use Rattle.transition.specs.declared.resource_state.ResourceState.{ResourceState}
-use Rattle.transition.specs.declared.resource_state.Next.{Next}
-use Rattle.transition.specs.declared.resource_state.Next.the-variants as Next
+use Rattle.resource_state.specs.Next.{stackOf, balanceOf, unlessRefused, withAmount}
+use Rattle.resource_state.specs.declared.Part.the-variants.{State, Input}
+use Rattle.resource_state.specs.declared.ResourceState.{ResourceState}
+use Rattle.resource_state.specs.declared.Next.{Next}
+use Rattle.resource_state.specs.declared.Next.the-variants as Next
 
 -- an absent source is 6; in to_subject, source unit, in quantity or amount
 abbrev pub crediting : ℕ → List Test

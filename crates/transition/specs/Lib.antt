@@ -1,5 +1,3 @@
--- The definitions that the contracts of `transition` cite: document 01's section "Operations", Apply and Credit.
-pub mod Next
-pub mod Apply
+-- The definitions that the contracts of `transition` cite: document 01's section "Operations", Credit and the answers.
 pub mod Credit
 pub mod Written

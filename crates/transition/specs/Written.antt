@@ -10,10 +10,10 @@ use Rattle.registry.specs.Readers.{bytesOf}
 use Rattle.registry.specs.Refusals.{zeroAmount, refusalOf}
 use Rattle.registry.specs.declared.error.ProfileError.the-variants.{Narrow}
 use Rattle.registry.specs.declared.error.Answer.{Answer}
-use Rattle.transition.specs.Next.{sheetOf}
-use Rattle.transition.specs.declared.resource_state.ResourceState.{ResourceState}
-use Rattle.transition.specs.declared.resource_state.Next.{Next}
-use Rattle.transition.specs.declared.resource_state.Next.the-variants as Next
+use Rattle.resource_state.specs.Next.{sheetOf}
+use Rattle.resource_state.specs.declared.ResourceState.{ResourceState}
+use Rattle.resource_state.specs.declared.Next.{Next}
+use Rattle.resource_state.specs.declared.Next.the-variants as Next
 
 -- accepted: the length written
 abbrev pub acceptedOf : ℕ → Answer

@@ -1,16 +1,12 @@
-// What an accepted operation writes: the port of transition.rs. `apply` writes the next state, `credit` the far end of a
-// transfer. Both take any bytes; a refusal leaves the buffer as it was.
+// What an accepted operation writes: the port of apply and transfer_after_state of transition.rs. `apply` writes the next
+// state, `credit` the far end of a transfer. Both take any bytes; a refusal leaves the buffer as it was.
 ghost use mathlib.Core.Path.{_≡_};
 ghost use Rattle.sheet.specs.Fields.{field, sightOf};
-ghost use Rattle.transition.specs.Next.{textFrom};
-ghost use Rattle.transition.specs.Apply.{nextBy, nextOf};
+ghost use Rattle.resource_state.specs.Next.{textFrom};
+ghost use Rattle.resource_state.specs.Apply.{nextBy, nextOf};
 ghost use Rattle.transition.specs.Credit.{creditOf};
 ghost use Rattle.transition.specs.Written.{acceptedOf, putOf, PutFits, ShortTexts, stateAnswer, stateBuffer, answerTo, bufferAfter};
 
-mod amounts;
-mod holding;
-mod meter;
-pub mod resource_state;
 mod transfer;
 
 use amount::Amount;
@@ -77,9 +73,9 @@ fn next_state(profile: u8, operation: u8, state: &[u8], input: &[u8]) -> Next
     ensures { λ r. ⌜ r ≡ nextBy profile operation (sightOf (now (state .entry))) (field (now (input .entry))) ⌝ }
 {
     match profile {
-        1 => holding::apply_stack(operation, state, input),
-        2 => holding::apply_balance(operation, state, input),
-        _ => meter::apply_meter(operation, state, input),
+        1 => resource_state::holding::apply_stack(operation, state, input),
+        2 => resource_state::holding::apply_balance(operation, state, input),
+        _ => resource_state::meter::apply_meter(operation, state, input),
     }
 }
 

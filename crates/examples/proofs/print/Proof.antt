@@ -8,21 +8,21 @@ use Rattle.examples.proofs.print.Tie as tie
 buffer-requires : tie.Need-buffer-requires
 buffer-requires c κs = search needs
 
-slice-aggregate-listing : tie.Need-slice-aggregate-listing
-slice-aggregate-listing c = search needs
+slice-aggregate-credits-session-listing : tie.Need-slice-aggregate-credits-session-listing
+slice-aggregate-credits-session-listing c = search needs
 
-listing-requires : tie.Need-listing-requires
-listing-requires c κs = search needs
+credits-session-listing-requires : tie.Need-credits-session-listing-requires
+credits-session-listing-requires c κs = search needs
 
 cast-len : tie.Need-cast-len
 cast-len c = search needs
 
 array-share-prefix-out : tie.Need-array-share-prefix-out
-array-share-prefix-out c = let told = length-in _ _ _ (c .before .listing .ensures .0) in search needs
+array-share-prefix-out c = let told = length-in _ _ _ (c .before .credits-session-listing .ensures .0) in search needs
 
 slice-aggregate-write-all : tie.Need-slice-aggregate-write-all
 slice-aggregate-write-all c =
-    let l = c .before .before .listing in
+    let l = c .before .before .credits-session-listing in
     let told = length-in _ _ _ (l .ensures .0) in
     sym (length-take-le (l .result) (l .last .1 .0) (search needs))
 
@@ -37,8 +37,8 @@ print-spec =
     tie.close
     (tie.spec
     buffer-requires
-    slice-aggregate-listing
-    listing-requires
+    slice-aggregate-credits-session-listing
+    credits-session-listing-requires
     cast-len
     array-share-prefix-out
     slice-aggregate-write-all

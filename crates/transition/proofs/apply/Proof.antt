@@ -1,6 +1,6 @@
 use Rattle.transition.proofs.Lengths.{call-is-short}
 use Rattle.transition.specs.Written.{answerTo, bufferAfter}
-use Rattle.transition.specs.Apply.{nextOf}
+use Rattle.resource_state.specs.Apply.{nextOf}
 use mathlib.Core.Path.{sym, _∙_}
 use borrow.Author.Needs.{needs}
 use Rattle.transition.proofs.apply.Statement.{statement}

@@ -1,7 +1,7 @@
 use Rattle.transition.proofs.Lengths.{sheet-fits, put-fits}
-use Rattle.transition.specs.declared.resource_state.ResourceState.the-variants.{ConsumableStack, FungibleBalance, MeteredResource}
+use Rattle.resource_state.specs.declared.ResourceState.the-variants.{ConsumableStack, FungibleBalance, MeteredResource}
 use Rattle.transition.specs.Written.{putOf}
-use Rattle.transition.specs.Next.{sheetOf}
+use Rattle.resource_state.specs.Next.{sheetOf}
 use mathlib.Core.Path.{ap, _∙_}
 use borrow.Author.Needs.{needs}
 use Rattle.transition.proofs.put_state.Statement.{statement}

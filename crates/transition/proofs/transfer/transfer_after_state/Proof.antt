@@ -1,5 +1,5 @@
 use Rattle.transition.specs.Credit.{creditBy}
-use Rattle.transition.specs.Next.{withAmount}
+use Rattle.resource_state.specs.Next.{withAmount}
 use borrow.Author.Tests.{eq-eqb, ne-eqb}
 use mathlib.Core.Path.{ap, _∙_}
 use borrow.Author.Needs.{needs}

@@ -1,0 +1,2 @@
+-- The laws of the definitions, which the proofs cite.
+pub mod Laws
