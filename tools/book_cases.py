@@ -7,7 +7,9 @@ has its book altered on the way, as no step would, and goes on: 28, or whatever 
 A record: kind, a, b, t, the body's length (16 bits), the body; for a start (kind 0) and a step (1 to 4) then the expected number and
 detail, and behind 15 both amounts (16 bytes each, little-endian). Kind 5 alters field a of record b to t. Kind 6 ends a list: its body is
 the expected book: the open places (16 bits), the transfers under way (8 bits), each open place's subject (33 bytes: 32 and the length) and
-balance, each transfer's ends and amount.
+balance, each transfer's ends and amount. Kind 7 is the list before it once more, through the run: its body is the list as a session, t the
+number of steps; behind it the length (16 bits) of what is expected: each step's number and detail, then the book as kind 6 has it. A list
+that is no good session has none: its start was refused, its book was altered, or its bytes are no session.
 """
 import collections, os, random, struct, sys
 from ledger import *
@@ -50,6 +52,7 @@ def alter(book):
 
 
 out, numbers, looks, altered, bad = bytearray(), collections.Counter(), 0, 0, 0
+runs, run_answers, left_out = 0, 0, collections.Counter()
 
 
 def put(kind, a, b, t, body, answer=None):
@@ -73,6 +76,32 @@ def whole(book):
     return data
 
 
+def as_entry(kind, a, b, t, body):
+    """A step as a session's entry: what its kind does not use is 0, and a finish has no body."""
+    return {1: (1, a, 0, 0, body), 2: (2, a, b, 0, body), 3: (3, a, b, t, body), 4: (4, 0, 0, t, b"")}[kind]
+
+
+def why_not(entries, was_altered):
+    """Why a list is not put through the run; None where it is."""
+    if was_altered:
+        return "altered"
+    if start(entries[0][4])[0][0]:
+        return "start refused"
+    return None if len(entries) <= MOST_ENTRIES and entries_of(session(entries)) else "no session"
+
+
+def put_run(entries, answers, book):
+    """The list through the run. The model's own run must say what its steps said one by one."""
+    global out, runs, run_answers
+    data = session(entries)
+    run_book, ran = run(data)
+    assert ran == answers and whole(run_book) == whole(book)
+    expected = b"".join(bytes(answer[:2]) for answer in ran) + whole(run_book)
+    put(7, 0, 0, len(ran), data)
+    out += struct.pack("<H", len(expected)) + expected
+    runs, run_answers = runs + 1, run_answers + len(ran)
+
+
 def worked():
     """Document 01's session."""
     opened = lambda subject, balance: sheet((SUBJECT, 1, subject), (UNIT, 1, b"rd"), (BALANCE, 1, balance))
@@ -84,7 +113,7 @@ for n in range(lists):
     unit = start_unit() if n else b"rd"
     answer, book = start(unit)
     put(0, 0, 0, 0, unit, answer)
-    state = 0
+    state, entries, answers = 0, [(0, 0, 0, 0, unit)], []
     for k in range(rng.randrange(4, 14) if n else 5):
         if n % 4 == 3 and k > 2 and rng.random() < .5:
             put(5, *alter(book), b"")
@@ -93,10 +122,17 @@ for n in range(lists):
         entry = a_step(rng, book, k) if n else worked()[k]
         answer = step(book, *entry)
         put(*entry, answer)
+        entries.append(as_entry(*entry))
+        answers.append(answer)
         state = 2 if answer[0] == 28 and state == 1 else state
     bad += state == 2
     looks += 1
     put(6, 0, 0, 0, whole(book))
+    reason = why_not(entries, state)
+    if reason:
+        left_out[reason] += 1
+    else:
+        put_run(entries, answers, book)
 
 with open(os.path.join(CRATE, "stdin"), "wb") as f:
     f.write(out)
@@ -104,5 +140,7 @@ with open(os.path.join(CRATE, "stdout"), "w") as f:
     for number in range(29):
         if numbers[number]:
             f.write("number %d: %d equal, 0 unequal\n" % (number, numbers[number]))
-    f.write("books at a list's end: %d equal, 0 unequal\nalterations: %d\naltered books that met 28: %d\nbytes %d, left over 0\n" % (looks, altered, bad, len(out)))
-print(dict(sorted(numbers.items())), "lists", lists, "alterations", altered, "altered books that met 28", bad, "bytes", len(out))
+    f.write("books at a list's end: %d equal, 0 unequal\nalterations: %d\naltered books that met 28: %d\n" % (looks, altered, bad))
+    f.write("lists through the run: %d equal, 0 unequal\nanswers in them: %d\nbytes %d, left over 0\n" % (runs, run_answers, len(out)))
+print(dict(sorted(numbers.items())), "lists", lists, "alterations", altered, "altered books that met 28", bad, "through the run", runs,
+      "answers in them", run_answers, "left out", dict(left_out), "bytes", len(out))

@@ -178,8 +178,8 @@ static void books(void)
     credits_book all[BOOKS], book;
     const sheet most = opening("N2", "rd", "340282366920938463463374607431768211450"), one = asking("1");
     const sheet inputs[INPUTS] = { { { 0 }, 0 }, opening("N3", "rd", "5"), opening("N3", "xx", "5"), asking("3"), asking("4000"), most };
-    row start = { "credits_book_start", 4608, 0 }, open = { "credits_book_open", 4608, 0 }, act = { "credits_book_act", 4608, 0 },
-        begin = { "credits_book_begin", 4608, 0 }, finish = { "credits_book_finish", 4608, 0 };
+    row start = { "credits_book_start", 3481, 0 }, open = { "credits_book_open", 2457, 0 }, act = { "credits_book_act", 2457, 0 },
+        begin = { "credits_book_begin", 2457, 0 }, finish = { "credits_book_finish", 2457, 0 };
     const size_t lengths[] = { 0, 1, 2, 32, 33 };
     for (size_t i = 0; i < 5; i++) {
         uint64_t regs[6] = { WORD(result), WORD("rdrdrdrdrdrdrdrdrdrdrdrdrdrdrdrdrd"), lengths[i] };
@@ -234,7 +234,7 @@ static void sessions(void)
     static uint8_t session[16384], out[4096];
     const sheet opened = opening("N1", "rd", "1000"), three = asking("3");
     size_t lengths[] = { 0, 12, 0 }, at = 2 + 8 * ENTRIES;
-    row ran = { "credits_session_run", 8192, 0 }, listed = { "credits_session_listing", 0, 0 };
+    row ran = { "credits_session_run", 7168, 0 }, listed = { "credits_session_listing", 0, 0 };
     for (size_t n = 1; n < 3; n++) {
         size_t entries = n == 1 ? 1 : ENTRIES;
         session[0] = (uint8_t)entries, session[1] = (uint8_t)(entries >> 8);

@@ -1,10 +1,10 @@
 -- Laws of the definitions of `specs/Numbers.antt`: which answer a fact on halves leads to.
-use Prim.Native.Nat.{ℕ, _+_, _-_, _*_, _/_, _%_, _^_, _<_, _≤_}
+use Prim.Native.Nat.{ℕ, zero, suc, _+_, _-_, _*_, _/_, _%_, _^_, _<_, _≤_}
 use mathlib.Core.Path.{_≡_, refl, ap, sym, _∙_}
 use lib.Dec.{ltb, leb, eqb, lit<}
 use mathlib.Core.Bool.{Bool, true, false, cond}
 use native.Mathlib.Omega.{arith}
-use native.Mathlib.Nat.{le-trans, lt-trans, le-add-right, mul-le-mul-right, mul-right-comm, add-mul, div-add-mod', div-lt-iff-lt-mul, mod-lt}
+use native.Mathlib.Nat.{le-trans, lt-trans, le-add-right, mul-le-mul-right, mul-right-comm, mul-assoc, add-mul, div-add-mod', div-lt-iff-lt-mul, mod-lt, mod-eq-of-lt, add-mul-mod-self-right, add-mod-right}
 use lib.Arith.{digits-lt, digits-div, digits-mod, lt-of-le-ne}
 use borrow.Author.Tests.{lt-ltb, le-ltb, le-leb, lt-leb, eq-eqb, ne-eqb, ltb-true, ltb-false, leb-true, leb-false, eqb-true, eqb-false}
 use Rattle.amount.specs.Numbers.{val, limit, halves, orderOf, checked, difference, tenths, divisionOf}
@@ -278,3 +278,57 @@ word-quotient x d z = sym (val-zero (record { hi = 0; lo = x .lo / d }) refl) �
 
 pub word-rest : (x : Uint128) (d : ℕ) → x .hi ≡ 0 → x .lo % d ≡ val x % d
 word-rest x d z = ap (λ (n : ℕ). n % d) (val-zero x z)
+
+-- ---- sums and differences that wrap
+
+-- a sum by halves: k passes the lower half, and q the upper one
+carried : (x x′ y y′ z z′ k t : ℕ) → z + t ≡ x + y + k → z′ + k * 2 ^ 64 ≡ x′ + y′
+    → z * 2 ^ 64 + z′ + t * 2 ^ 64 ≡ x * 2 ^ 64 + x′ + (y * 2 ^ 64 + y′)
+carried x x′ y y′ z z′ k t e f = omega arith
+
+sum-carried : (x y z : Uint128) (k q : ℕ) → z .hi + q * 2 ^ 64 ≡ x .hi + y .hi + k → z .lo + k * 2 ^ 64 ≡ x .lo + y .lo
+    → val z + q * limit ≡ val x + val y
+unfolding val limit
+sum-carried x y z k q e f =
+    ap (λ (n : ℕ). z .hi * 2 ^ 64 + z .lo + n) (sym (mul-assoc q (2 ^ 64) (2 ^ 64)))
+    ∙ carried (x .hi) (x .lo) (y .hi) (y .lo) (z .hi) (z .lo) k (q * 2 ^ 64) e f
+
+-- what a sum leaves of the upper half, and what passes it
+parted : (n h : ℕ) → h ≡ n % 2 ^ 64 → h + n / 2 ^ 64 * 2 ^ 64 ≡ n
+parted n h e = omega (arith, div-add-mod' n (2 ^ 64))
+
+pub sum-wraps : (x y z : Uint128) (k : ℕ) → z .hi < 2 ^ 64 → z .lo < 2 ^ 64
+    → z .hi ≡ (x .hi + y .hi + k) % 2 ^ 64 → z .lo + k * 2 ^ 64 ≡ x .lo + y .lo → z ≡ halves ((val x + val y) % limit)
+sum-wraps x y z k g h e f =
+    let q : ℕ = (x .hi + y .hi + k) / 2 ^ 64 in
+    let w : Whole z = whole-of z g h in
+    let s : (val z + q * limit) % limit ≡ val z = add-mul-mod-self-right (val z) q limit ∙ mod-eq-of-lt (w .fits) in
+    w .whole ∙ ap halves (sym s ∙ ap (λ (n : ℕ). n % limit) (sum-carried x y z k q (parted (x .hi + y .hi + k) (z .hi) e) f))
+
+one-passes : (a b k : ℕ) → k ≤ 1 → a < 2 ^ 64 → b < 2 ^ 64 → (a + b + k) / 2 ^ 64 < 2
+one-passes a b k h f g = omega arith
+
+-- m less n, as it wraps, where q is what passes the sum of n and what is left
+less-wraps : (m n l r q : ℕ) → q < 2 → n < l → r < l → m + q * l ≡ r + n → r ≡ (m + (l - n)) % l
+less-wraps m n l r zero b g h e =
+    let d : m + (l - n) ≡ r + l = omega arith in
+    sym (ap (λ (k : ℕ). k % l) d ∙ add-mod-right r l ∙ mod-eq-of-lt h)
+less-wraps m n l r (suc zero) b g h e =
+    let d : m + (l - n) ≡ r = omega arith in
+    sym (ap (λ (k : ℕ). k % l) d ∙ mod-eq-of-lt h)
+less-wraps m n l r (suc (suc q)) b g h e = absurd (omega arith)
+
+pub difference-wraps : (x y z : Uint128) (k : ℕ) → k ≤ 1 → y .hi < 2 ^ 64 → y .lo < 2 ^ 64 → z .hi < 2 ^ 64 → z .lo < 2 ^ 64
+    → x .hi ≡ (z .hi + y .hi + k) % 2 ^ 64 → x .lo + k * 2 ^ 64 ≡ z .lo + y .lo → z ≡ halves ((val x + (limit - val y)) % limit)
+difference-wraps x y z k b gy hy g h e f =
+    let q : ℕ = (z .hi + y .hi + k) / 2 ^ 64 in
+    let w : Whole z = whole-of z g h in
+    let s = sum-carried z y x k q (parted (z .hi + y .hi + k) (x .hi) e) f in
+    w .whole ∙ ap halves (less-wraps (val x) (val y) limit (val z) q (one-passes (z .hi) (y .hi) k b g gy) (whole-of y gy hy .fits) (w .fits) s)
+
+-- what they are where nothing wraps
+pub wrapped-sum : {r : Uint128} (m n : ℕ) → r ≡ halves ((m + n) % limit) → m + n < limit → r ≡ halves (m + n)
+wrapped-sum m n e h = e ∙ ap halves (mod-eq-of-lt h)
+
+pub wrapped-difference : {r : Uint128} (m n : ℕ) → r ≡ halves ((m + (limit - n)) % limit) → n ≤ m → m < limit → r ≡ halves (m - n)
+wrapped-difference m n e b h = e ∙ ap halves (sym (less-wraps m n limit (m - n) 0 (omega arith) (omega arith) (omega arith) (omega arith)))

@@ -1,8 +1,10 @@
 // Unsigned 128-bit numbers as two 64-bit halves: what `u128` is in the Rust.
 ghost use mathlib.Core.Path.{_≡_};
-ghost use Prim.Native.Nat.{_+_, _*_, _^_, _<_, _≤_};
+ghost use Prim.Native.Nat.{_+_, _-_, _*_, _%_, _^_, _<_, _≤_};
 ghost use lib.Dec.{eqb};
-ghost use Rattle.amount.specs.Numbers.{val, orderOf, checked, difference, tenths, divisionOf};
+ghost use Rattle.amount.specs.Numbers.{val, limit, halves, orderOf, checked, difference, tenths, divisionOf};
+use std::num::wrapping_add_u64;
+use std::num::wrapping_sub_u64;
 
 #[repr(C)]
 pub struct Uint128 {
@@ -92,6 +94,36 @@ impl Uint128 {
             hi: hi - 1,
             lo: u64::MAX - other.lo + self.lo + 1,
         })
+    }
+
+    // The sum, as a u128 wraps it.
+    pub fn wrapping_add(self, other: Uint128) -> Uint128
+        ensures { λ r. ⌜ r ≡ halves ((val self + val other) % limit) ⌝ }
+    {
+        let lo = wrapping_add_u64(self.lo, other.lo);
+        let hi = wrapping_add_u64(self.hi, other.hi);
+        if lo < other.lo {
+            return Uint128 {
+                hi: wrapping_add_u64(hi, 1),
+                lo,
+            };
+        }
+        Uint128 { hi, lo }
+    }
+
+    // The difference, as a u128 wraps it.
+    pub fn wrapping_sub(self, other: Uint128) -> Uint128
+        ensures { λ r. ⌜ r ≡ halves ((val self + (limit - val other)) % limit) ⌝ }
+    {
+        let lo = wrapping_sub_u64(self.lo, other.lo);
+        let hi = wrapping_sub_u64(self.hi, other.hi);
+        if self.lo < other.lo {
+            return Uint128 {
+                hi: wrapping_sub_u64(hi, 1),
+                lo,
+            };
+        }
+        Uint128 { hi, lo }
     }
 
     // Ten times the number, and a digit.

@@ -1,2 +1,2 @@
--- The definitions of an audit's code: sums that may pass 128 bits, and test 28 by its parts.
+-- The definitions of an audit's code: test 28 and the total as one answer, and a sum by halves.
 pub mod Totals

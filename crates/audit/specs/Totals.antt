@@ -1,36 +1,34 @@
--- Sums that may pass 128 bits: what is added to too much stays too much.
-use mathlib.Core.Bool.{Bool, true, false, cond, _&&_}
-use Prim.Native.Nat.{ℕ, _+_}
-use lib.Dec.{eqb}
-use Rattle.amount.specs.Numbers.{val, checked}
-use Rattle.amount.specs.declared.uint128.Checked.{Checked}
-use Rattle.amount.specs.declared.uint128.Checked.the-variants.{Some, None}
-use Rattle.book.specs.Sets.{every}
-use Rattle.book.specs.Book.{nameOk, placeOk, transferOk, placeAt, transferAt, placeRecord, transferRecord, total}
+-- Test 28 and the total as one answer, and a sum by halves.
+use mathlib.Core.Path.{_≡_}
+use mathlib.Core.Bool.{false, cond}
+use Prim.Native.Nat.{ℕ, _+_, _*_, _^_, _≤_}
+use lib.Dec.{ltb}
+use Rattle.amount.specs.Numbers.{limit, halves}
+use Rattle.book.specs.Book.{wellFormed, total}
 use Rattle.book.specs.declared.Book.{Book}
+use Rattle.audit.specs.declared.totals.Total.{Total}
+use Rattle.audit.specs.declared.totals.HalfSums.{HalfSums}
 
--- a sum so far, and n more
-abbrev pub more : Checked → ℕ → Checked
-more (Some a) n = checked (val a + n)
-more None n = None
+-- whether a book passes test 28, and its total; zero where it does not pass
+unfoldable pub totalOf : Book → Total
+totalOf b = record { sound = wellFormed b; sum = halves (cond (wellFormed b) (total b) 0) }
 
--- two sums so far, together
-abbrev pub together : Checked → Checked → Checked
-together s (Some n) = more s (val n)
-together s None = None
+-- ---- for private helpers
 
-abbrev pub inRange : Checked → Bool
-inRange (Some n) = true
-inRange None = false
+-- the answer for a book that does not pass
+abbrev pub unsound : Total
+unsound = record { sound = false; sum = record { hi = 0; lo = 0 } }
 
--- what test 28 asks of a book besides its total
-unfoldable pub partsOk : Book → Bool
-partsOk b =
-    nameOk (b .unit) && every (λ p. placeOk (placeAt b p)) 16
-    && every (λ p. eqb (placeRecord b p .balance .scale) 0) 16
-    && every (λ t. eqb (transferRecord b t .amount .scale) 0) 8
-    && every (λ t. transferOk b (transferAt b t)) 8
+-- whether 128 bits hold n, and n; zero where they do not
+unfoldable pub totalIn : ℕ → Total
+totalIn n = record { sound = ltb n limit; sum = halves (cond (ltb n limit) n 0) }
 
--- the total of a book that passes test 28
-unfoldable pub soundTotal : Book → Checked
-soundTotal b = cond (partsOk b) (checked (total b)) None
+-- the number that a sum by halves stands for
+unfoldable pub sumIn : HalfSums → ℕ
+sumIn s = (s .above * 2 ^ 64 + s .hi + s .carries) * 2 ^ 64 + s .lo
+
+-- r is the sum s and n more, and has counted at most once more
+pub record Added (s : HalfSums) (n : ℕ) (r : HalfSums) : Type 0 where
+  pub sum : sumIn r ≡ sumIn s + n
+  pub above : r .above ≤ s .above + 1
+  pub carries : r .carries ≤ s .carries + 1

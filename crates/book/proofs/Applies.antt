@@ -20,8 +20,8 @@ use Rattle.registry.specs.declared.error.Outcome.the-variants as Check
 use Rattle.registry.specs.declared.error.Reading.{Reading}
 use Rattle.registry.specs.declared.error.Reading.the-variants.{Given, Failed}
 use Rattle.profiles.specs.Balance.{credited, debited, balanceRules}
-use Rattle.places.specs.Places.{placeView, closedView}
-use Rattle.places.proofs.Accepted.{then-both}
+use Rattle.book.specs.Places.{placeView, closedView}
+use Rattle.book.proofs.Accepted.{then-both}
 use Rattle.resource_state.specs.Next.{balanceOf}
 use Rattle.resource_state.specs.Apply.{balanceNext}
 use Rattle.transition.specs.Credit.{creditBy}

@@ -9,26 +9,27 @@ use Prim.Native.Nat.{ℕ, _+_, _-_, _≤_, _<_}
 use native.Mathlib.Omega.{arith}
 use Rattle.amount.specs.Numbers.{limit}
 use Rattle.amount.proofs.Halves.{val-halves}
-use Rattle.sheet.specs.Fields.{Field, field, text, amount, to-subject}
+use Rattle.sheet.specs.Fields.{Field, field, text, subject, amount, to-subject}
 use Rattle.registry.specs.Readers.{amountIn}
+use Rattle.registry.specs.declared.error.Outcome.the-variants as Check
 use Rattle.profiles.specs.Balance.{balanceRules}
-use Rattle.places.specs.Places.{putField}
-use Rattle.book.specs.Book.{wholeAmount, nameBytes, placeRecord, placeAt, transferAt, loadOf, total, isSome, setBalance, setCredits, setTransfer}
-use Rattle.book.specs.Steps.{Begin, creditsIn, seen, testsBegin, firstRefusal, heldAt, lessened}
-use Rattle.book.specs.Plain.{Plain, worth, plainCredits, plainSeen, plainAnswer}
-use Rattle.book.specs.Claim.{route, cellAt}
+use Rattle.book.specs.Places.{putField}
+use Rattle.book.specs.Book.{wholeAmount, nameBytes, placeRecord, placeAt, transferAt, carriedBy, total, isSome, setBalance, setCredits, setTransfer}
+use Rattle.book.specs.Steps.{Begin, creditsIn, said, seen, testsBegin, firstRefusal, heldAt, lessened}
+use Rattle.book.specs.Plain.{Plain, worth, stock, holds, plainCredits, plainView, plainSeen, plainAnswer}
+use Rattle.book.specs.Claim.{route, cell, cellAt}
 use Rattle.book.specs.declared.Transfer.{Transfer}
 use Rattle.book.specs.declared.Book.{Book}
 use Rattle.book.specs.declared.error.BookOutcome.the-variants.{Accepted}
 use Rattle.book.proofs.Tables.{Altered, altered-all, altered-map, altered-is}
 use Rattle.book.proofs.Rows.{Affords, transfer-affords}
-use Rattle.book.proofs.Facts.{Begins, begins, begun}
-use Rattle.book.proofs.Views.{PlaceSet, TransferSet, credits-set, good-transfer, transfer-set, transfer-sound, total-transfer, coming-transfer, coming, toward, toward-none, toward-hit, toward-miss}
-use Rattle.book.proofs.Invariant.{Inv, Kept, credited, holding, view-there, is-none, place-is, plain-is, whole-is, SetBoth, set-both, plain-credits, plain-total}
+use Rattle.book.proofs.Facts.{follow, same, Begins, begins}
+use Rattle.book.proofs.Views.{PlaceSet, TransferSet, same-transfers, same-unit, same-places, unit-same, good-transfer, transfer-set, transfer-sound, total-transfer, coming-transfer, coming, toward, toward-none, toward-hit, toward-miss}
+use Rattle.book.proofs.Invariant.{Inv, Kept, credited, holding, view-there, is-none, place-is, plain-is, whole-is, SetBoth, credits-both, plain-credits, plain-total}
 
 -- n credits that no place holds are put under way, and in the plain book into the place h where they end
 module _ {d : ℕ → Bool} {b : Book} {l : Plain} (v : Inv d b l) (f g t n h : ℕ) (ends : cond (d t) f g ≡ h) (low : h < 16) (small : t < 8)
-    (source : isSome (placeAt b f) ≡ true) (aim : isSome (placeAt b g) ≡ true) (here : isSome (placeAt b h) ≡ true)
+    (source : isSome (placeAt b f) ≡ true) (to-open : isSome (placeAt b g) ≡ true) (here : isSome (placeAt b h) ≡ true)
     (free : transferAt b t ≡ none) (room : total b + n < limit) where
   r : Transfer
   r = record { from = f; to = g; amount = wholeAmount n }
@@ -46,14 +47,14 @@ module _ {d : ℕ → Bool} {b : Book} {l : Plain} (v : Inv d b l) (f g t n h : 
 
   sent-total : total c ≡ total b + n
   unfolding r
-  sent-total = omega (arith, total-transfer e small, ap loadOf free, val-halves n)
+  sent-total = omega (arith, total-transfer e small, ap carriedBy free, val-halves n)
 
-  there : l h ≡ holding (nameBytes (placeRecord b h .subject)) (heldAt b h + coming d b h)
+  there : l h ≡ holding (cell (placeRecord b h)) (heldAt b h + coming d b h)
   there = plain-is v h low here
 
-  a : Altered l m h (holding (nameBytes (placeRecord b h .subject)) (worth (l h) + n))
+  a : Altered l m h (holding (cell (placeRecord b h)) (worth (l h) + n))
   unfolding m
-  a = plain-credits l h (heldAt b h + coming d b h) (worth (l h) + n) (nameBytes (placeRecord b h .subject)) there
+  a = plain-credits l h (heldAt b h + coming d b h) (worth (l h) + n) (cell (placeRecord b h)) there
 
   coming-was : (q : ℕ) → coming d c q ≡ coming d b q + toward (d t) q (some r)
   coming-was q =
@@ -70,35 +71,37 @@ module _ {d : ℕ → Bool} {b : Book} {l : Plain} (v : Inv d b l) (f g t n h : 
   sent-matches : (q : ℕ) → q < 16 → m q ≡ credited (coming d c q) (cellAt c q)
   sent-matches q k = altered-all (λ i o. o ≡ credited (coming d c i) (cellAt c i)) a at-h q off
     where
-      at-h : holding (nameBytes (placeRecord b h .subject)) (worth (l h) + n) ≡ credited (coming d c h) (cellAt c h)
+      at-h : holding (cell (placeRecord b h)) (worth (l h) + n) ≡ credited (coming d c h) (cellAt c h)
       at-h =
-          rw (e .places h, place-is v h low here)
-          (ap (holding (nameBytes (placeRecord b h .subject))) (omega (arith, coming-here, ap worth there)))
+          rw (same-places (e .others) h, place-is v h low here)
+          (ap (holding (cell (placeRecord b h))) (omega (arith, coming-here, ap worth there)))
 
       off : q ≢ h → l q ≡ credited (coming d c q) (cellAt c q)
-      off x = rw (coming-else q x, e .places q) (v .matches q k)
+      off x = rw (coming-else q x, same-places (e .others) q) (v .matches q k)
 
   sent : Inv d c m
   unfolding r
   sent =
       record {
-        good = good-transfer e (transfer-sound b r source aim) (v .good);
+        good = good-transfer e (transfer-sound b r source to-open) (v .good);
         fits = omega (arith, sent-total);
-        sums = omega (arith, sent-total, plain-total a low, v .sums);
+        sums = omega (arith, sent-total, plain-total a low, ap stock there, ap worth there, v .sums);
         matches = sent-matches;
       }
 
 -- the transfer's credits go to `to` in the end
 pub keptBegin : (b : Book) (l : Plain) (f g t : ℕ) (i : List ℕ) (d : ℕ → Bool) → d t ≡ false → Inv d b l
     → firstRefusal (testsBegin (seen b) f g t i) ≡ Accepted → Kept d b l (Begin f g t i)
-unfolding seen plainSeen plainAnswer creditsIn r c m
+unfolding seen plainSeen plainAnswer testsBegin creditsIn r c m
 keptBegin b l f g t i d fate v z =
     record {
       inv = sent (both .inv) f g t n g (rw fate) (k .low-to) (k .low-number) (stays f here-f) (stays g here-g) (stays g here-g) free room;
-      plain = begun (plainSeen u l) f g t i plain-facts;
-      unit = e₂ .unit ∙ e₁ .unit;
-      moved = omega (arith, both .book, enough, after-total);
-      routes = λ q. altered-is (altered-map route (e₂ .transfers)) q ∙ rw (val-halves n, e₁ .transfers q);
+      plain =
+          follow (testsBegin (seen b) f g t i) (testsBegin (plainSeen u l) f g t i)
+          (same, (same, (λ _. refl, (λ _. rw (there-f, there-g), (same, (λ _. ap said checks, tt)))))) z;
+      unit = unit-same (e₂ .others) ∙ same-unit (e₁ .others);
+      moved = omega (arith, both .book, val-halves (lessened (heldAt b f) n), enough, after-total);
+      routes = λ q. altered-is (altered-map route (e₂ .transfers)) q ∙ rw (val-halves n, same-transfers (e₁ .others) q);
     }
   where
     k : Begins (seen b) f g t i
@@ -128,55 +131,44 @@ keptBegin b l f g t i d fate v z =
 
     a : Affords (placeRecord b f .balance) inp false (λ w. balanceRules amountIn w inp 15)
     a =
-        transfer-affords s-f u (placeRecord b f .balance) (whole-is v f (k .low-from) here-f) inp
+        transfer-affords s-f u (placeRecord b f .balance) (whole-is v f (k .low-from) here-f .balance) inp
         (rw (place-is v f (k .low-from) here-f, place-is v g (k .low-to) here-g) at (k .check))
 
     enough : n ≤ heldAt b f
     enough = a .within refl
 
-    there-f : l f ≡ holding s-f (heldAt b f + coming d b f)
+    checks : balanceRules amountIn (plainView u (l f)) (putField (field i) to-subject (plainView u (l g) .at subject)) 15 ≡ Check.Accepted
+    checks =
+        rw (plain-is v f (k .low-from) here-f, plain-is v g (k .low-to) here-g)
+        (a .more s-f u (wholeAmount (heldAt b f + coming d b f)) refl (rw (val-halves (heldAt b f + coming d b f)) (omega arith)))
+
+    there-f : l f ≡ holding (cell (placeRecord b f)) (heldAt b f + coming d b f)
     there-f = plain-is v f (k .low-from) here-f
 
-    there-g : l g ≡ holding s-g (heldAt b g + coming d b g)
+    there-g : l g ≡ holding (cell (placeRecord b g)) (heldAt b g + coming d b g)
     there-g = plain-is v g (k .low-to) here-g
 
     b₁ : Book
     b₁ = setCredits b f (lessened (heldAt b f) n)
 
-    both : SetBoth d b l f (lessened (heldAt b f) n) (worth (l f) - n)
+    both : SetBoth d b l f (setBalance (placeRecord b f) (wholeAmount (lessened (heldAt b f) n))) (holds (l f) (worth (l f) - n))
     both =
-        set-both v f (k .low-from) here-f (lessened (heldAt b f) n) (worth (l f) - n) (omega (arith, enough, ap worth there-f)) (omega (arith, enough, v .fits))
+        credits-both v f (k .low-from) here-f (lessened (heldAt b f) n) (worth (l f) - n) (omega (arith, enough, ap worth there-f)) (omega (arith, enough, v .fits))
 
     e₁ : PlaceSet b b₁ f (some (setBalance (placeRecord b f) (wholeAmount (lessened (heldAt b f) n))))
-    e₁ = credits-set b f (lessened (heldAt b f) n) (v .good .shape) (k .low-from) here-f
+    e₁ = both .set
 
     stays : (q : ℕ) → isSome (placeAt b q) ≡ true → isSome (placeAt b₁ q) ≡ true
     stays q h = altered-all (λ j o. isSome o ≡ true) (e₁ .places) refl q (λ x. h)
 
     room : total b₁ + n < limit
-    room = omega (arith, both .book, enough, v .fits)
+    room = omega (arith, both .book, val-halves (lessened (heldAt b f) n), enough, v .fits)
 
     free : transferAt b₁ t ≡ none
-    free = e₁ .transfers t ∙ is-none (transferAt b t) (k .free)
+    free = same-transfers (e₁ .others) t ∙ is-none (transferAt b t) (k .free)
 
     e₂ : TransferSet b₁ (setTransfer b₁ t 1 (record { from = f; to = g; amount = wholeAmount n })) t (some (record { from = f; to = g; amount = wholeAmount n }))
     e₂ = transfer-set b₁ t _ (both .inv .good .shape) (k .low-number) refl
 
     after-total : total (setTransfer b₁ t 1 (record { from = f; to = g; amount = wholeAmount n })) ≡ total b₁ + n
-    after-total = omega (arith, total-transfer e₂ (k .low-number), ap loadOf free, val-halves n)
-
-    plain-facts : Begins (plainSeen u l) f g t i
-    plain-facts =
-        record {
-          low-from = k .low-from;
-          low-to = k .low-to;
-          low-number = k .low-number;
-          apart = k .apart;
-          free = refl;
-          from-here = rw there-f;
-          to-here = rw there-g;
-          sheet = k .sheet;
-          check =
-              rw (there-f, there-g)
-              (a .more s-f u (wholeAmount (heldAt b f + coming d b f)) refl (rw (val-halves (heldAt b f + coming d b f)) (omega arith)));
-        }
+    after-total = omega (arith, total-transfer e₂ (k .low-number), ap carriedBy free, val-halves n)

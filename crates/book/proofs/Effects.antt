@@ -1,7 +1,7 @@
 -- Where a step is accepted, on any book value, the arithmetic of amounts gives what its effect stores: reading an amount gives a whole
 -- one, and neither 17 nor 18 arises.
 use mathlib.Core.Path.{_≡_, refl, sym, ap, _∙_}
-use mathlib.Core.Bool.{Bool, true, false, cond, _&&_}
+use mathlib.Core.Bool.{Bool, true, false, cond, _&&_, false≢true}
 use mathlib.Core.Option.{none}
 use mathlib.Core.List.{List}
 use Prim.Native.Nat.{ℕ, _+_, _-_, _^_, _≤_, _<_, max}
@@ -25,17 +25,18 @@ use Rattle.registry.specs.declared.error.Outcome.the-variants as Check
 use Rattle.registry.specs.declared.error.Reading.{Reading}
 use Rattle.registry.specs.declared.error.Reading.the-variants.{Given, Failed}
 use Rattle.profiles.specs.Balance.{balanceRules}
-use Rattle.places.specs.Places.{placeView, closedView, putField}
-use Rattle.places.proofs.Accepted.{then-both}
-use Rattle.book.specs.Book.{credits, wholeAmount, nameBytes, placeRecord, transferRecord, placeAt, transferAt, balanceOf, loadOf, balances, loads, total, isSome}
-use Rattle.book.specs.Steps.{Open, Act, Begin, Finish, creditsIn, adds, seen, heldAt, answer}
+use Rattle.book.specs.Places.{placeView, closedView, putField}
+use Rattle.book.proofs.Accepted.{then-both}
+use Rattle.book.specs.Book.{credits, wholeAmount, nameBytes, placeRecord, transferRecord, placeAt, transferAt, stockOf, carriedBy, balances, creditsUnderWay, total, isSome, wellFormed}
+use Rattle.book.specs.Steps.{Open, Act, Begin, Finish, creditsIn, Doing, Issuing, Taking, doing, adds, seen, testsFinish, firstRefusal, heldAt, answer}
 use Rattle.book.specs.declared.Book.{Book}
+use Rattle.book.specs.declared.error.BookError.the-variants.{TooMuch}
 use Rattle.book.specs.declared.error.BookOutcome.the-variants.{Accepted}
 use Rattle.book.proofs.Tables.{sum-part}
-use Rattle.book.proofs.Rows.{refused-never, act-affords, transfer-affords}
-use Rattle.book.proofs.Facts.{accepted-tests, Opens, opens, Acts, acts-so, Begins, begins, Finishes, finishes}
+use Rattle.book.proofs.Rows.{refused-never, adds-is, act-affords, transfer-affords}
+use Rattle.book.proofs.Facts.{unmet, accepted-tests, Opens, opens, Acts, acts-so, Begins, begins, Finishes, finishes}
 use Rattle.book.proofs.Formed.{Formed, formed}
-use Rattle.book.proofs.Views.{place-raw, transfer-raw, open-lt, home-open}
+use Rattle.book.proofs.Views.{place-raw, transfer-raw, open-lt, home, home-open}
 use Rattle.book.proofs.Invariant.{view-there, is-none}
 
 -- ---- amounts
@@ -97,11 +98,11 @@ difference-whole a c h k l m =
 module _ (b : Book) (f : Formed b) where
   pub held-part : (p : ℕ) → p < 16 → isSome (placeAt b p) ≡ true → heldAt b p ≤ balances b
   unfolding balances
-  held-part p low here = rw (place-raw b p here .1) at (sum-part (λ q. balanceOf (placeAt b q)) 16 p low)
+  held-part p low here = rw (place-raw b p here .1) at (sum-part (λ q. stockOf (placeAt b q)) 16 p low)
 
-  pub load-part : (t : ℕ) → t < 8 → isSome (transferAt b t) ≡ true → credits (transferRecord b t .amount) ≤ loads b
-  unfolding loads
-  load-part t low moving = rw (transfer-raw b t moving .1) at (sum-part (λ q. loadOf (transferAt b q)) 8 t low)
+  pub carried-part : (t : ℕ) → t < 8 → isSome (transferAt b t) ≡ true → credits (transferRecord b t .amount) ≤ creditsUnderWay b
+  unfolding creditsUnderWay
+  carried-part t low moving = rw (transfer-raw b t moving .1) at (sum-part (λ q. carriedBy (transferAt b q)) 8 t low)
 
 -- ---- each step
 
@@ -152,9 +153,12 @@ module _ (b : Book) (p o : ℕ) (i : List ℕ) (h : answer b (Act p o i) ≡ Acc
   -- 12, 13 and 17: no overflow
   pub act-adds : adds o ≡ true → sumOf (placeRecord b p .balance) (asked amount i) ≡ Ok (wholeAmount (heldAt b p + creditsIn amount i))
   unfolding seen
-  act-adds up =
-      let room : total b + creditsIn amount i < limit = leb-false limit (total b + creditsIn amount i) (rw up at (facts .room)) in
-      plus-asked (placeRecord b p .balance) i (sound .whole-places p (facts .low)) (omega (arith, room, held-fits))
+  act-adds up = plus-asked (placeRecord b p .balance) i (sound .whole-places p (facts .low) .balance) (go (doing o) refl)
+    where
+      go : (k : Doing) → doing o ≡ k → heldAt b p + creditsIn amount i < limit
+      go Issuing e =
+          omega (arith, held-fits, leb-false limit (total b + creditsIn amount i) (unmet (leb limit (total b + creditsIn amount i)) TooMuch (rw e at (facts .after-check))))
+      go Taking e = absurd (false≢true (sym (adds-is o Taking e) ∙ up))
 
   -- 14, 16, 18 and 19: no underflow
   pub act-takes : adds o ≡ false → differenceOf (placeRecord b p .balance) (asked amount i) ≡ Ok (wholeAmount (heldAt b p - creditsIn amount i))
@@ -162,8 +166,8 @@ module _ (b : Book) (p o : ℕ) (i : List ℕ) (h : answer b (Act p o i) ≡ Acc
   act-takes down =
       let w : balanceRules amountIn (placeView (nameBytes (placeRecord b p .subject)) (nameBytes (b .unit)) (placeRecord b p .balance)) (field i) o ≡ Check.Accepted =
       rw (place-raw b p here .1) at (facts .check) in
-      let a = act-affords (nameBytes (placeRecord b p .subject)) (nameBytes (b .unit)) (placeRecord b p .balance) (sound .whole-places p (facts .low)) (field i) o (facts .operation) w in
-      less-asked (placeRecord b p .balance) i (sound .whole-places p (facts .low)) (omega (arith, sound .fits, held-fits)) (a .within down)
+      let a = act-affords (nameBytes (placeRecord b p .subject)) (nameBytes (b .unit)) (placeRecord b p .balance) (sound .whole-places p (facts .low) .balance) (field i) o (facts .operation) w in
+      less-asked (placeRecord b p .balance) i (sound .whole-places p (facts .low) .balance) (omega (arith, sound .fits, held-fits)) (a .within down)
 
 -- begin: no underflow
 pub begin-takes : (b : Book) (f g t : ℕ) (i : List ℕ) → answer b (Begin f g t i) ≡ Accepted
@@ -175,21 +179,30 @@ begin-takes b f g t i h =
     let u : List ℕ = nameBytes (b .unit) in
     let here-f : isSome (placeAt b f) ≡ true = sym (view-there u (placeAt b f)) ∙ k .from-here in
     let here-g : isSome (placeAt b g) ≡ true = sym (view-there u (placeAt b g)) ∙ k .to-here in
-    let a = transfer-affords (nameBytes (placeRecord b f .subject)) u (placeRecord b f .balance) (w .whole-places f (k .low-from))
+    let a = transfer-affords (nameBytes (placeRecord b f .subject)) u (placeRecord b f .balance) (w .whole-places f (k .low-from) .balance)
     (putField (field i) to-subject (text (nameBytes (placeRecord b g .subject))))
     (rw (place-raw b f here-f .1, place-raw b g here-g .1) at (k .check)) in
-    less-asked (placeRecord b f .balance) i (w .whole-places f (k .low-from)) (omega (arith, w .fits, held-part b w f (k .low-from) here-f)) (a .within refl)
+    less-asked (placeRecord b f .balance) i (w .whole-places f (k .low-from) .balance) (omega (arith, w .fits, held-part b w f (k .low-from) here-f)) (a .within refl)
 
--- finish: no overflow. `opened` is a 16-bit number
-pub finish-adds : (b : Book) (t : ℕ) → b .opened < 2 ^ 16 → answer b (Finish t) ≡ Accepted
-    → sumOf (placeRecord b (transferRecord b t .to) .balance) (transferRecord b t .amount)
-    ≡ Ok (wholeAmount (heldAt b (transferRecord b t .to) + credits (transferRecord b t .amount)))
-unfolding seen total
-finish-adds b t s h =
-    let w : Formed b = formed b (accepted-tests b (Finish t) h .0) in
-    let k : Finishes (seen b) t = finishes (seen b) t (accepted-tests b (Finish t) h .1) in
-    let here : isSome (placeAt b (transferRecord b t .to)) ≡ true =
-    home-open b (transferRecord b t) false (rw (transfer-raw b t (k .moving) .1) at (w .transfers t (k .low))) in
-    let low : transferRecord b t .to < 16 = open-lt b s (transferRecord b t .to) here in
-    sum-whole (placeRecord b (transferRecord b t .to) .balance) (transferRecord b t .amount) (w .whole-places (transferRecord b t .to) low) (w .whole-transfers t (k .low))
-    (omega (arith, w .fits, held-part b w (transferRecord b t .to) low here, load-part b w t (k .low) (k .moving)))
+-- where a transfer's credits go, at either end: no overflow. `opened` is a 16-bit number
+module _ (b : Book) (t : ℕ) (s : b .opened < 2 ^ 16) where
+  Lands : ℕ → Type 0
+  Lands p = sumOf (placeRecord b p .balance) (transferRecord b t .amount) ≡ Ok (wholeAmount (heldAt b p + credits (transferRecord b t .amount)))
+
+  lands : (back : Bool) → wellFormed b ≡ true → firstRefusal (testsFinish (seen b) t) ≡ Accepted → Lands (home back (transferRecord b t))
+  unfolding Lands seen total
+  lands back f z =
+      let w : Formed b = formed b f in
+      let k : Finishes (seen b) t = finishes (seen b) t z in
+      let p : ℕ = home back (transferRecord b t) in
+      let here : isSome (placeAt b p) ≡ true =
+      home-open b (transferRecord b t) back (rw (transfer-raw b t (k .moving) .1) at (w .transfers t (k .low))) in
+      let low : p < 16 = open-lt b s p here in
+      sum-whole (placeRecord b p .balance) (transferRecord b t .amount) (w .whole-places p low .balance) (w .whole-transfers t (k .low))
+      (omega (arith, w .fits, held-part b w p low here, carried-part b w t (k .low) (k .moving)))
+
+  pub finish-adds : answer b (Finish t) ≡ Accepted
+      → sumOf (placeRecord b (transferRecord b t .to) .balance) (transferRecord b t .amount)
+      ≡ Ok (wholeAmount (heldAt b (transferRecord b t .to) + credits (transferRecord b t .amount)))
+  unfolding Lands
+  finish-adds h = lands false (accepted-tests b (Finish t) h .0) (accepted-tests b (Finish t) h .1)

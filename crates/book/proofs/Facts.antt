@@ -1,4 +1,5 @@
--- What an accepted step passed, by name: the facts of each kind of step, of a book's tests or of the plain book's, and back.
+-- What an accepted step passed, by name: the facts of each kind of step. And tests that follow from others, one by one: the plain
+-- book's from the book's.
 use mathlib.Core.Path.{_≡_, refl, ap}
 use mathlib.Core.Logic.{_≢_}
 use mathlib.Core.Bool.{Bool, true, false, not, _&&_, _||_, true≢false}
@@ -7,7 +8,7 @@ use Prim.Native.Nat.{ℕ, _+_, _≤_, _<_}
 use native.Mathlib.Omega.{arith}
 use lib.Dec.{eqb, leb, ltb}
 use lib.ListN.{length}
-use borrow.Author.Tests.{leb-false, lt-leb, ltb-false, le-ltb, eqb-false, ne-eqb, not-false}
+use borrow.Author.Tests.{leb-false, lt-leb, ltb-false, eqb-false, not-false}
 use Rattle.amount.specs.Numbers.{limit}
 use Rattle.sheet.specs.Fields.{field, subject, unit, balance, amount}
 use Rattle.registry.specs.Readers.{amountIn}
@@ -16,7 +17,7 @@ use Rattle.registry.specs.declared.error.Outcome.the-variants as Check
 use Rattle.registry.specs.declared.error.ProfileError.the-variants.{UnknownOperation, Born, Unborn}
 use Rattle.profiles.specs.Balance.{balanceRules}
 use Rattle.book.specs.Book.{wellFormed}
-use Rattle.book.specs.Steps.{creditsIn, bytesIn, adds, acts, refusedIf, said, firstRefusal, sameBytes, Seen, sheetSound, sentTo, testsOpen, testsAct, testsBegin, testsFinish, Step, testsOf, seen, answer}
+use Rattle.book.specs.Steps.{creditsIn, bytesIn, doing, acts, refusedIf, said, firstRefusal, sameBytes, Seen, afterCheck, sheetSound, sentTo, testsOpen, testsAct, testsBegin, testsFinish, Step, testsOf, seen, answer}
 use Rattle.book.specs.declared.Book.{Book}
 use Rattle.book.specs.declared.error.BookError.{BookError}
 use Rattle.book.specs.declared.error.BookError.the-variants.{Profile, UnderWay, OffTheBook, Idle, Itself, TooMuch, OtherUnit, LongName, BadBook}
@@ -42,11 +43,32 @@ pass [] h = refl
 pass (Accepted ∷ ts) h = pass ts (h .1)
 pass (Refused e ∷ ts) h = refused-never e (h .0)
 
+-- each of the tests us is passed if its neighbour of ts is
+abbrev pub Follow : List BookOutcome → List BookOutcome → Type 0
+Follow [] [] = Unit {0}
+Follow [] (u ∷ us) = ⊥
+Follow (t ∷ ts) [] = Unit {0}
+Follow (t ∷ ts) (u ∷ us) = (t ≡ Accepted → u ≡ Accepted) × Follow ts us
+
+pub follow : (ts us : List BookOutcome) → Follow ts us → firstRefusal ts ≡ Accepted → firstRefusal us ≡ Accepted
+follow [] [] f h = refl
+follow [] (u ∷ us) f h = absurd f
+follow (t ∷ ts) [] f h = refl
+follow (Refused e ∷ ts) (u ∷ us) f h = refused-never e h
+follow (Accepted ∷ ts) (u ∷ us) f h = go u (f .0 refl) (follow ts us (f .1) h)
+  where
+    go : (x : BookOutcome) → x ≡ Accepted → firstRefusal us ≡ Accepted → firstRefusal (x ∷ us) ≡ Accepted
+    go Accepted e k = k
+    go (Refused r) e k = refused-never r e
+
+pub same : {t : BookOutcome} → t ≡ Accepted → t ≡ Accepted
+same h = h
+
 pub unmet : (t : Bool) (e : BookError) → refusedIf t e ≡ Accepted → t ≡ false
 unmet true e h = refused-never e h
 unmet false e h = refl
 
-met-not : (t : Bool) (e : BookError) → t ≡ false → refusedIf t e ≡ Accepted
+pub met-not : (t : Bool) (e : BookError) → t ≡ false → refusedIf t e ≡ Accepted
 met-not t e h = rw h
 
 said-so : (o : Outcome) → said o ≡ Accepted → o ≡ Check.Accepted
@@ -105,29 +127,6 @@ module _ (s : Seen) (p : ℕ) (i : List ℕ) where
         room = leb-false limit (s .total + creditsIn balance i) (unmet (leb limit (s .total + creditsIn balance i)) TooMuch (t .1 .1 .1 .1 .1 .1 .0));
       }
 
-  pub opened : Opens s p i → firstRefusal (testsOpen s p i) ≡ Accepted
-  unfolding testsOpen
-  opened f =
-      pass (testsOpen s p i) (
-        met-not (leb 16 p) OffTheBook (lt-leb 16 p (f .low)),
-        (
-          met-not (s .place p .there) (Profile Born) (f .closed),
-          (
-            f .sheet,
-            (
-              ap said (f .check),
-              (
-                met-not (not (sameBytes (s .unit) (bytesIn unit i))) OtherUnit (ap not (f .same-unit)),
-                (
-                  met-not (ltb 32 (length (bytesIn subject i))) (LongName subject) (le-ltb 32 (length (bytesIn subject i)) (f .short)),
-                  (met-not (leb limit (s .total + creditsIn balance i)) TooMuch (lt-leb limit (s .total + creditsIn balance i) (f .room)), tt),
-                ),
-              ),
-            ),
-          ),
-        ),
-      )
-
 -- ---- act
 
 pub record Acts (s : Seen) (p o : ℕ) (i : List ℕ) : Type 0 where
@@ -136,7 +135,7 @@ pub record Acts (s : Seen) (p o : ℕ) (i : List ℕ) : Type 0 where
   pub sheet : sheetSound i ≡ Accepted
   pub operation : acts o ≡ true
   pub check : balanceRules amountIn (s .place p) (field i) o ≡ Check.Accepted
-  pub room : adds o && leb limit (s .total + creditsIn amount i) ≡ false
+  pub after-check : afterCheck (doing o) s p (creditsIn amount i) ≡ Accepted
 
 module _ (s : Seen) (p o : ℕ) (i : List ℕ) where
   pub acts-so : firstRefusal (testsAct s p o i) ≡ Accepted → Acts s p o i
@@ -149,25 +148,8 @@ module _ (s : Seen) (p o : ℕ) (i : List ℕ) where
         sheet = t .1 .1 .0;
         operation = not-false (acts o) (unmet (not (acts o)) (Profile UnknownOperation) (t .1 .1 .1 .0));
         check = said-so (balanceRules amountIn (s .place p) (field i) o) (t .1 .1 .1 .1 .0);
-        room = unmet (adds o && leb limit (s .total + creditsIn amount i)) TooMuch (t .1 .1 .1 .1 .1 .0);
+        after-check = t .1 .1 .1 .1 .1 .0;
       }
-
-  pub acted : Acts s p o i → firstRefusal (testsAct s p o i) ≡ Accepted
-  unfolding testsAct
-  acted f =
-      pass (testsAct s p o i) (
-        met-not (leb 16 p) OffTheBook (lt-leb 16 p (f .low)),
-        (
-          met-not (not (s .place p .there)) (Profile Unborn) (ap not (f .here)),
-          (
-            f .sheet,
-            (
-              met-not (not (acts o)) (Profile UnknownOperation) (ap not (f .operation)),
-              (ap said (f .check), (met-not (adds o && leb limit (s .total + creditsIn amount i)) TooMuch (f .room), tt)),
-            ),
-          ),
-        ),
-      )
 
 -- ---- begin
 
@@ -200,23 +182,6 @@ module _ (s : Seen) (f g t : ℕ) (i : List ℕ) where
         sheet = z .1 .1 .1 .1 .0;
         check = said-so (balanceRules amountIn (s .place f) (sentTo s g i) 15) (z .1 .1 .1 .1 .1 .0);
       }
-
-  pub begun : Begins s f g t i → firstRefusal (testsBegin s f g t i) ≡ Accepted
-  unfolding testsBegin
-  begun k =
-      pass (testsBegin s f g t i) (
-        met-not (leb 16 f || leb 16 g || leb 8 t) OffTheBook (rw (lt-leb 16 f (k .low-from), lt-leb 16 g (k .low-to)) (lt-leb 8 t (k .low-number))),
-        (
-          met-not (eqb f g) Itself (ne-eqb f g (k .apart)),
-          (
-            met-not (s .busy t) UnderWay (k .free),
-            (
-              met-not (not (s .place f .there && s .place g .there)) (Profile Unborn) (rw (k .from-here, k .to-here)),
-              (k .sheet, (ap said (k .check), tt)),
-            ),
-          ),
-        ),
-      )
 
 -- ---- finish
 

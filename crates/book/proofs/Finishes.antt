@@ -8,25 +8,23 @@ use native.Mathlib.Omega.{arith}
 use lib.Dec.{eqb}
 use Rattle.amount.proofs.Halves.{val-halves}
 use Rattle.book.specs.Sets.{bit}
-use Rattle.book.specs.Book.{credits, wholeAmount, nameBytes, blankTransfer, placeRecord, transferRecord, placeAt, transferAt, balanceOf, loadOf, total, isSome, setBalance, setCredits, setTransfer}
-use Rattle.book.specs.Steps.{Finish, seen, testsFinish, firstRefusal, heldAt, raised, answer}
+use Rattle.book.specs.Book.{credits, wholeAmount, blankTransfer, placeRecord, transferRecord, placeAt, transferAt, stockOf, carriedBy, total, isSome, setBalance, setCredits, setTransfer}
+use Rattle.book.specs.Steps.{Finish, seen, testsFinish, firstRefusal, heldAt, raised, landed, answer}
 use Rattle.book.specs.Plain.{Plain, plainAnswer}
-use Rattle.book.specs.Claim.{route, shown, cellAt}
+use Rattle.book.specs.Claim.{route, cell, shown, cellAt}
 use Rattle.book.specs.declared.Transfer.{Transfer}
 use Rattle.book.specs.declared.Book.{Book}
 use Rattle.book.specs.declared.error.BookOutcome.the-variants.{Accepted}
 use Rattle.book.proofs.Tables.{altered-all, altered-map, altered-is}
 use Rattle.book.proofs.Facts.{Finishes, finishes, finished}
-use Rattle.book.proofs.Views.{PlaceSet, TransferSet, credits-set, good-place, good-transfer, transfer-gone, home, home-open, transfer-raw, transfer-in, open-lt, pending-lt, passes-28, total-place, total-transfer, coming-place, coming-transfer, coming, toward, toward-none, toward-hit, toward-miss}
-use Rattle.book.proofs.Invariant.{Inv, Kept, credited, holding, place-is, plain-is, name-is}
+use Rattle.book.proofs.Views.{PlaceSet, TransferSet, same-transfers, same-unit, same-places, unit-same, record-set, good-place, good-transfer, transfer-gone, home, home-open, transfer-raw, transfer-in, open-lt, pending-lt, passes-28, total-place, total-transfer, coming-same, coming-transfer, coming, toward, toward-none, toward-hit, toward-miss}
+use Rattle.book.proofs.Invariant.{Inv, Kept, credited, holding, place-is, plain-is, name-is, whole-is, credits-whole}
 
 -- a transfer's end, at the place where its fate has it; k: the fate of transfer t, which alone may turn by this step
 module _ (b : Book) (l : Plain) (t : ℕ) (d d′ : ℕ → Bool) (k : Bool) (fate : d t ≡ k) (agree : (s : ℕ) → s ≢ t → d′ s ≡ d s)
     (v : Inv d b l) (small : t < 8) (moving : isSome (transferAt b t) ≡ true) where
   ended : Book
-  ended =
-      let r = transferRecord b t in
-      setTransfer (setCredits b (home k r) (raised (heldAt b (home k r)) (credits (r .amount)))) t 0 blankTransfer
+  ended = landed b t (home k (transferRecord b t))
 
   record Ended : Type 0 where
     inv : Inv d′ ended l
@@ -43,11 +41,11 @@ module _ (b : Book) (l : Plain) (t : ℕ) (d d′ : ℕ → Bool) (k : Bool) (fa
               good = good-transfer e₂ refl (good-place e₁ (name-is v g low here) (v .good));
               fits = omega (arith, same, v .fits);
               sums = omega (arith, same, v .sums);
-              matches = landed;
+              matches = landed-at;
             };
         same-total = same;
-        unit = e₂ .unit ∙ e₁ .unit;
-        routes = λ q. altered-is (altered-map route (e₂ .transfers)) q ∙ rw (e₁ .transfers q);
+        unit = unit-same (e₂ .others) ∙ same-unit (e₁ .others);
+        routes = λ q. altered-is (altered-map route (e₂ .transfers)) q ∙ rw (same-transfers (e₁ .others) q);
       }
     where
       r : Transfer
@@ -66,7 +64,7 @@ module _ (b : Book) (l : Plain) (t : ℕ) (d d′ : ℕ → Bool) (k : Bool) (fa
       here = home-open b r k (rw is-r at (v .good .transfers t small))
 
       low : g < 16
-      low = open-lt b (v .good .shape .opened) g here
+      low = open-lt b (v .good .shape .places .range) g here
 
       m : Book
       m = setCredits b g (raised (heldAt b g) n)
@@ -75,17 +73,19 @@ module _ (b : Book) (l : Plain) (t : ℕ) (d d′ : ℕ → Bool) (k : Bool) (fa
       c = setTransfer m t 0 blankTransfer
 
       e₁ : PlaceSet b m g (some (setBalance (placeRecord b g) (wholeAmount (raised (heldAt b g) n))))
-      e₁ = credits-set b g (raised (heldAt b g) n) (v .good .shape) low here
+      e₁ =
+          record-set b g (setBalance (placeRecord b g) (wholeAmount (raised (heldAt b g) n))) (v .good .shape) low here
+          (credits-whole (placeRecord b g) (raised (heldAt b g) n) (whole-is v g low here))
 
       e₂ : TransferSet m c t none
       e₂ = transfer-gone m t (e₁ .shape) small
 
       was : transferAt m t ≡ some r
-      was = e₁ .transfers t ∙ is-r
+      was = same-transfers (e₁ .others) t ∙ is-r
 
       same : total c ≡ total b
       same =
-          omega (arith, total-place e₁ low, ap balanceOf (place-is v g low here), val-halves (raised (heldAt b g) n), total-transfer e₂ small, ap loadOf was)
+          omega (arith, total-place e₁ low, ap stockOf (place-is v g low here), val-halves (raised (heldAt b g) n), total-transfer e₂ small, ap carriedBy was)
 
       coming-was : (q : ℕ) → coming d′ c q + toward k q (some r) ≡ coming d b q
       coming-was q =
@@ -95,16 +95,16 @@ module _ (b : Book) (l : Plain) (t : ℕ) (d d′ : ℕ → Bool) (k : Bool) (fa
             ap (toward (d t) q) was,
             ap (λ (i : Bool). toward i q (some r)) fate,
             toward-none (d′ t) q,
-            coming-place e₁ d q,
+            coming-same d b m (same-transfers (e₁ .others)) q,
           )
 
-      landed : (q : ℕ) → q < 16 → l q ≡ credited (coming d′ c q) (cellAt c q)
-      landed q z = rw (e₂ .places q) (altered-all (λ i o. l i ≡ credited (coming d′ c i) (shown o)) (e₁ .places) at-g q off)
+      landed-at : (q : ℕ) → q < 16 → l q ≡ credited (coming d′ c q) (cellAt c q)
+      landed-at q z = rw (same-places (e₂ .others) q) (altered-all (λ i o. l i ≡ credited (coming d′ c i) (shown o)) (e₁ .places) at-g q off)
         where
           at-g : l g ≡ credited (coming d′ c g) (shown (some (setBalance (placeRecord b g) (wholeAmount (raised (heldAt b g) n)))))
           at-g =
               plain-is v g low here
-              ∙ ap (holding (nameBytes (placeRecord b g .subject))) (omega (arith, coming-was g, toward-hit k g r refl, val-halves (raised (heldAt b g) n)))
+              ∙ ap (holding (cell (placeRecord b g))) (omega (arith, coming-was g, toward-hit k g r refl, val-halves (raised (heldAt b g) n)))
 
           off : q ≢ g → l q ≡ credited (coming d′ c q) (cellAt b q)
           off x =

@@ -6,7 +6,8 @@ use lib.Dec.{eqb, ltb}
 use borrow.Author.Tests.{eq-eqb, eqb-true, ltb-true, lt-ltb}
 use Rattle.amount.specs.Numbers.{limit}
 use Rattle.book.specs.Sets.{every}
-use Rattle.book.specs.Book.{placeRecord, transferRecord, placeAt, transferAt, total, nameOk, placeOk, transferOk, wellFormed}
+use Rattle.book.specs.Book.{placeRecord, transferRecord, placeAt, transferAt, total, nameOk, placeOk, scalesOk, transferOk, wellFormed}
+use Rattle.book.specs.declared.Place.{Place}
 use Rattle.book.specs.declared.Book.{Book}
 use Rattle.book.proofs.Tables.{every-true, every-at}
 
@@ -18,17 +19,27 @@ pub and-r : (s t : Bool) → s && t ≡ true → t ≡ true
 and-r true t h = h
 and-r false t h = absurd (false≢true h)
 
+-- all scales of a place are 0
+pub record Whole (x : Place) : Type 0 where
+  pub balance : x .balance .scale ≡ 0
+
+pub whole : (x : Place) → scalesOk x ≡ true → Whole x
+whole x h = record { balance = eqb-true (x .balance .scale) 0 h }
+
+scales : (x : Place) → Whole x → scalesOk x ≡ true
+scales x w = rw (w .balance)
+
 pub record Formed (b : Book) : Type 0 where
   pub fits : total b < limit
   pub unit : nameOk (b .unit) ≡ true
   pub places : (p : ℕ) → p < 16 → placeOk (placeAt b p) ≡ true
-  pub whole-places : (p : ℕ) → p < 16 → placeRecord b p .balance .scale ≡ 0
+  pub whole-places : (p : ℕ) → p < 16 → Whole (placeRecord b p)
   pub whole-transfers : (t : ℕ) → t < 8 → transferRecord b t .amount .scale ≡ 0
   pub transfers : (t : ℕ) → t < 8 → transferOk b (transferAt b t) ≡ true
 
 module _ (b : Book) where
   abbrev wholePlace : ℕ → Bool
-  wholePlace p = eqb (placeRecord b p .balance .scale) 0
+  wholePlace p = scalesOk (placeRecord b p)
 
   abbrev wholeTransfer : ℕ → Bool
   wholeTransfer t = eqb (transferRecord b t .amount .scale) 0
@@ -50,7 +61,7 @@ module _ (b : Book) where
         fits = ltb-true (total b) limit (and-l s₁ s₂ h₂);
         unit = and-r s₁ s₂ h₂;
         places = every-at (λ p. placeOk (placeAt b p)) 16 (and-r (s₁ && s₂) s₃ h₃);
-        whole-places = λ p k. eqb-true (placeRecord b p .balance .scale) 0 (every-at wholePlace 16 (and-r (s₁ && s₂ && s₃) s₄ h₄) p k);
+        whole-places = λ p k. whole (placeRecord b p) (every-at wholePlace 16 (and-r (s₁ && s₂ && s₃) s₄ h₄) p k);
         whole-transfers = λ t k. eqb-true (transferRecord b t .amount .scale) 0 (every-at wholeTransfer 8 (and-r (s₁ && s₂ && s₃ && s₄) s₅ h₅) t k);
         transfers = every-at (λ t. transferOk b (transferAt b t)) 8 (and-r (s₁ && s₂ && s₃ && s₄ && s₅) s₆ h);
       }
@@ -62,7 +73,7 @@ module _ (b : Book) where
         lt-ltb (total b) limit (f .fits),
         f .unit,
         every-true (λ p. placeOk (placeAt b p)) 16 (f .places),
-        every-true wholePlace 16 (λ p k. eq-eqb (placeRecord b p .balance .scale) 0 (f .whole-places p k)),
+        every-true wholePlace 16 (λ p k. scales (placeRecord b p) (f .whole-places p k)),
         every-true wholeTransfer 8 (λ t k. eq-eqb (transferRecord b t .amount .scale) 0 (f .whole-transfers t k)),
         every-true (λ t. transferOk b (transferAt b t)) 8 (f .transfers),
       )

@@ -1,7 +1,7 @@
 -- What holds of a book and the plain book between any two steps, and what each kind of step has to show.
 -- A fate d says of each transfer number whether its credits go back in the end: requests that end a transfer otherwise than by
 -- finish turn it. Where no step does, it is `forth`.
-use mathlib.Core.Path.{_≡_, refl, sym, ap, _∙_}
+use mathlib.Core.Path.{_≡_, refl, ap, _∙_}
 use mathlib.Core.Bool.{Bool, true, false, true≢false}
 use mathlib.Core.Option.{Option, some, none}
 use mathlib.Core.List.{List}
@@ -10,26 +10,28 @@ use native.Mathlib.Omega.{arith}
 use borrow.Author.Tests.{eq-eqb, ne-eqb}
 use Rattle.amount.specs.Numbers.{limit}
 use Rattle.amount.proofs.Halves.{val-halves}
-use Rattle.book.specs.Book.{credits, wholeAmount, nameBytes, placeRecord, placeAt, transferAt, total, isSome, nameOk, setBalance, setCredits}
-use Rattle.book.specs.Steps.{Step, viewOf, effect, issues, takes}
-use Rattle.book.specs.Plain.{Holding, Plain, worth, plainTotal, plainAnswer, plainPut, holds, plainCredits, plainEffect}
-use Rattle.book.specs.Claim.{route, noted, shown, cellAt}
+use Rattle.book.specs.Book.{credits, wholeAmount, nameBytes, placeRecord, placeAt, transferAt, stockOf, total, isSome, nameOk, setBalance, setRecord}
+use Rattle.book.specs.Steps.{Step, viewOf, effect, issues, takes, way}
+use Rattle.book.specs.Plain.{Holding, Plain, stock, plainTotal, plainAnswer, plainPut, withBalance, holds, plainCredits, plainEffect}
+use Rattle.book.specs.Claim.{route, noted, cell, shown, cellAt}
 use Rattle.book.specs.declared.Place.{Place}
 use Rattle.book.specs.declared.Book.{Book}
 use Rattle.book.specs.declared.error.BookOutcome.the-variants.{Accepted}
 use Rattle.book.proofs.Tables.{Altered, altered-map, altered-all, sum-altered}
-use Rattle.book.proofs.Views.{Good, good-place, total-place, PlaceSet, credits-set, place-raw, coming, coming-place}
+use Rattle.book.proofs.Formed.{Whole}
+use Rattle.book.proofs.Views.{Good, good-place, total-place, PlaceSet, record-set, same-transfers, place-raw, coming, coming-same}
 
 abbrev pub forth : ℕ → Bool
 forth t = false
 
-abbrev pub holding : List ℕ → ℕ → Option Holding
-holding s n = some (record { subject = s; balance = n })
+-- a place of the plain book, with n credits
+abbrev pub holding : Holding → ℕ → Option Holding
+holding h n = some (withBalance h n)
 
 -- a place with c credits more
 abbrev pub credited : ℕ → Option Holding → Option Holding
 credited c none = none
-credited c (some h) = holding (h .subject) (h .balance + c)
+credited c (some h) = holding h (h .balance + c)
 
 -- the plain book has at each place what the book has there, and what is coming to it
 pub record Inv (d : ℕ → Bool) (b : Book) (l : Plain) : Type 0 where
@@ -44,7 +46,7 @@ pub record Kept (d : ℕ → Bool) (b : Book) (l : Plain) (s : Step) : Type 0 wh
   pub plain : plainAnswer (nameBytes (b .unit)) l s ≡ Accepted
   pub unit : effect b s .unit ≡ b .unit
   pub moved : total (effect b s) + takes s ≡ total b + issues s
-  pub routes : (q : ℕ) → route (transferAt (effect b s) q) ≡ noted s (λ t. route (transferAt b t)) q
+  pub routes : (q : ℕ) → route (transferAt (effect b s) q) ≡ noted (way s) (λ t. route (transferAt b t)) q
 
 -- ---- cells and views
 
@@ -61,17 +63,18 @@ module _ {d : ℕ → Bool} {b : Book} {l : Plain} (v : Inv d b l) (p : ℕ) (lo
   pub place-is : placeAt b p ≡ some (placeRecord b p)
   place-is = place-raw b p here .1
 
-  pub cell-is : cellAt b p ≡ holding (nameBytes (placeRecord b p .subject)) (credits (placeRecord b p .balance))
+  pub cell-is : cellAt b p ≡ some (cell (placeRecord b p))
   cell-is = ap shown place-is
 
-  pub plain-is : l p ≡ holding (nameBytes (placeRecord b p .subject)) (credits (placeRecord b p .balance) + coming d b p)
+  pub plain-is : l p ≡ holding (cell (placeRecord b p)) (credits (placeRecord b p .balance) + coming d b p)
   plain-is = v .matches p low ∙ ap (credited (coming d b p)) cell-is
 
   pub name-is : nameOk (placeRecord b p .subject) ≡ true
   name-is = rw place-is at (v .good .places p low)
 
-  pub whole-is : placeRecord b p .balance .scale ≡ 0
-  whole-is = v .good .shape .whole-places p low
+  pub whole-is : Whole (placeRecord b p)
+  unfolding placeRecord
+  whole-is = v .good .shape .places .wholes p low
 
 -- ---- the plain book
 
@@ -79,13 +82,12 @@ pub plain-put : (l : Plain) (p : ℕ) (x : Option Holding) → Altered l (plainP
 unfolding plainPut
 plain-put l p x = record { there = rw (eq-eqb p p refl); elsewhere = λ q d. rw (ne-eqb q p d) }
 
-pub plain-credits : (l : Plain) (p n m : ℕ) (s : List ℕ) → l p ≡ holding s n → Altered l (plainCredits l p m) p (holding s m)
-unfolding plainCredits
-plain-credits l p n m s e = rw (← (ap (λ (o : Option Holding). holds o m) e)) (plain-put l p (holds (l p) m))
+pub plain-credits : (l : Plain) (p n m : ℕ) (h : Holding) → l p ≡ holding h n → Altered l (plainCredits l p m) p (holding h m)
+plain-credits l p n m h e = rw (← (ap (λ (o : Option Holding). holds o m) e)) (plain-put l p (holds (l p) m))
 
-pub plain-total : {l m : Plain} {p : ℕ} {x : Option Holding} → Altered l m p x → p < 16 → plainTotal m + worth (l p) ≡ plainTotal l + worth x
+pub plain-total : {l m : Plain} {p : ℕ} {x : Option Holding} → Altered l m p x → p < 16 → plainTotal m + stock (l p) ≡ plainTotal l + stock x
 unfolding plainTotal
-plain-total a h = sum-altered (altered-map worth a) 16 h
+plain-total a h = sum-altered (altered-map stock a) 16 h
 
 -- ---- both at once
 
@@ -94,39 +96,47 @@ pub matches-place : (d : ℕ → Bool) {b c : Book} {p : ℕ} {x : Option Place}
     → ((q : ℕ) → q < 16 → l q ≡ credited (coming d b q) (cellAt b q)) → y ≡ credited (coming d b p) (shown x)
     → (q : ℕ) → q < 16 → m q ≡ credited (coming d c q) (cellAt c q)
 matches-place d {b} {c} {p} {x} {l} {m} {y} e a old h q k =
-    rw (coming-place e d q)
+    rw (coming-same d b c (same-transfers (e .others)) q)
     (altered-all (λ i o. m i ≡ credited (coming d b i) (shown o)) (e .places) (a .there ∙ h) q (λ z. a .elsewhere q z ∙ old q k))
 
--- the credits of an open place set in both books, each as the other: what act does, and begin at its source
-pub record SetBoth (d : ℕ → Bool) (b : Book) (l : Plain) (p m k : ℕ) : Type 0 where
-  pub inv : Inv d (setCredits b p m) (plainCredits l p k)
-  pub book : total (setCredits b p m) + credits (placeRecord b p .balance) ≡ total b + m
+-- the record of an open place set in both books, each as the other: what act does, and begin at its source
+pub record SetBoth (d : ℕ → Bool) (b : Book) (l : Plain) (p : ℕ) (x : Place) (y : Option Holding) : Type 0 where
+  pub inv : Inv d (setRecord b p x) (plainPut l p y)
+  pub set : PlaceSet b (setRecord b p x) p (some x)
+  pub book : total (setRecord b p x) + stockOf (some (placeRecord b p)) ≡ total b + stockOf (some x)
 
-pub set-both : {d : ℕ → Bool} {b : Book} {l : Plain} → Inv d b l → (p : ℕ) → p < 16 → isSome (placeAt b p) ≡ true → (m k : ℕ)
-    → k ≡ m + coming d b p → total b + m < limit + credits (placeRecord b p .balance) → SetBoth d b l p m k
-set-both {d} {b} {l} v p low here m k up room =
+pub set-both : {d : ℕ → Bool} {b : Book} {l : Plain} → Inv d b l → (p : ℕ) → p < 16 → isSome (placeAt b p) ≡ true → (x : Place) → Whole x
+    → x .subject ≡ placeRecord b p .subject → (y : Option Holding) → y ≡ credited (coming d b p) (shown (some x))
+    → total b + stockOf (some x) < limit + stockOf (some (placeRecord b p)) → SetBoth d b l p x y
+set-both {d} {b} {l} v p low here x w name y same room =
     record {
       inv =
           record {
-            good = good-place e (name-is v p low here) (v .good);
+            good = good-place e (rw name (name-is v p low here)) (v .good);
             fits = omega (arith, after-total);
-            sums = omega (arith, plain-total a low, up, ap worth there, after-total, v .sums);
-            matches = matches-place d e a (v .matches) (ap (holding s) (up ∙ ap (λ (n : ℕ). n + coming d b p) (sym (val-halves m))));
+            sums = omega (arith, plain-total a low, ap stock same, ap stock (plain-is v p low here), after-total, v .sums);
+            matches = matches-place d e a (v .matches) same;
           };
+      set = e;
       book = after-total;
     }
   where
-    s : List ℕ
-    s = nameBytes (placeRecord b p .subject)
+    e : PlaceSet b (setRecord b p x) p (some x)
+    e = record-set b p x (v .good .shape) low here w
 
-    there : l p ≡ holding s (credits (placeRecord b p .balance) + coming d b p)
-    there = plain-is v p low here
+    a : Altered l (plainPut l p y) p y
+    a = plain-put l p y
 
-    e : PlaceSet b (setCredits b p m) p (some (setBalance (placeRecord b p) (wholeAmount m)))
-    e = credits-set b p m (v .good .shape) low here
+    after-total : total (setRecord b p x) + stockOf (some (placeRecord b p)) ≡ total b + stockOf (some x)
+    after-total = rw (place-is v p low here) at (total-place e low)
 
-    a : Altered l (plainCredits l p k) p (holding s k)
-    a = plain-credits l p (credits (placeRecord b p .balance) + coming d b p) k s there
+-- its credits alone
+pub credits-whole : (x : Place) (n : ℕ) → Whole x → Whole (setBalance x (wholeAmount n))
+credits-whole x n w = record { balance = refl }
 
-    after-total : total (setCredits b p m) + credits (placeRecord b p .balance) ≡ total b + m
-    after-total = rw (place-is v p low here, val-halves m) at (total-place e low)
+pub credits-both : {d : ℕ → Bool} {b : Book} {l : Plain} → Inv d b l → (p : ℕ) → p < 16 → isSome (placeAt b p) ≡ true → (m k : ℕ)
+    → k ≡ m + coming d b p → total b + m < limit + credits (placeRecord b p .balance)
+    → SetBoth d b l p (setBalance (placeRecord b p) (wholeAmount m)) (holds (l p) k)
+credits-both {d} {b} {l} v p low here m k up room =
+    set-both v p low here (setBalance (placeRecord b p) (wholeAmount m)) (credits-whole (placeRecord b p) m (whole-is v p low here)) refl (holds (l p) k)
+    (rw (plain-is v p low here, val-halves m, up)) (rw (val-halves m) (omega (arith, room)))

@@ -1,6 +1,8 @@
 -- The laws of the definitions, and the theorems that docs/PROOFS.md names.
 pub mod Tables
 pub mod Names
+pub mod Accepted
+pub mod Asking
 pub mod Rows
 pub mod Facts
 pub mod Formed
@@ -11,6 +13,7 @@ pub mod Acts
 pub mod Begins
 pub mod Finishes
 pub mod Whole
+pub mod Steady
 pub mod Orders
 pub mod Worked
 pub mod Effects

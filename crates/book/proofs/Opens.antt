@@ -7,9 +7,9 @@ use Prim.Native.Nat.{ℕ, _+_}
 use native.Mathlib.Omega.{arith}
 use Rattle.amount.proofs.Halves.{val-halves}
 use Rattle.sheet.specs.Fields.{subject, balance}
-use Rattle.book.specs.Book.{wholeAmount, nameBytes, nameOf, blankPlace, placeAt, balanceOf, total, isSome, setSubject, setBalance, openPlace}
+use Rattle.book.specs.Book.{wholeAmount, nameBytes, nameOf, blankPlace, placeAt, stockOf, total, isSome, setSubject, setBalance, openPlace}
 use Rattle.book.specs.Steps.{Open, creditsIn, bytesIn, seen, testsOpen, firstRefusal}
-use Rattle.book.specs.Plain.{Plain, worth, plainTotal, plainSeen, plainAnswer, plainPut}
+use Rattle.book.specs.Plain.{Holding, Plain, stock, plainTotal, plainSeen, plainAnswer, plainPut}
 use Rattle.book.specs.Claim.{route, shown}
 use Rattle.book.specs.declared.Place.{Place}
 use Rattle.book.specs.declared.Book.{Book}
@@ -17,13 +17,14 @@ use Rattle.book.specs.declared.error.BookOutcome.the-variants.{Accepted}
 use Rattle.book.proofs.Tables.{Altered}
 use Rattle.book.proofs.Names.{name-bytes, name-ok}
 use Rattle.book.proofs.Rows.{create-subject}
-use Rattle.book.proofs.Facts.{Opens, opens, opened}
-use Rattle.book.proofs.Views.{PlaceSet, opened-set, good-place, total-place, coming-closed, coming}
-use Rattle.book.proofs.Invariant.{Inv, Kept, credited, holding, view-there, is-none, plain-put, plain-total, matches-place}
+use Rattle.book.proofs.Facts.{follow, same, Opens, opens}
+use Rattle.book.proofs.Formed.{whole}
+use Rattle.book.proofs.Views.{PlaceSet, same-transfers, same-unit, opened-set, good-place, total-place, coming-closed, coming}
+use Rattle.book.proofs.Invariant.{Inv, Kept, credited, holding, view-there, is-none, plain-put, plain-total, matches-place, credits-whole}
 
 pub keptOpen : (b : Book) (l : Plain) (p : ℕ) (i : List ℕ) (d : ℕ → Bool) → Inv d b l → firstRefusal (testsOpen (seen b) p i) ≡ Accepted
     → Kept d b l (Open p i)
-unfolding seen plainSeen plainAnswer
+unfolding seen plainSeen plainAnswer testsOpen blankPlace
 keptOpen b l p i d v t =
     record {
       inv =
@@ -31,12 +32,14 @@ keptOpen b l p i d v t =
             good = good-place e (name-ok name (create-subject i (rw closed at (f .check))) (f .short)) (v .good);
             fits = omega (arith, after-total, f .room);
             sums = omega (arith, after-total, after-plain, v .sums);
-            matches = matches-place d e a (v .matches) same;
+            matches = matches-place d e a (v .matches) alike;
           };
-      plain = opened (plainSeen u l) p i plain-facts;
-      unit = e .unit;
+      plain =
+          follow (testsOpen (seen b) p i) (testsOpen (plainSeen u l) p i)
+          (same, (λ _. rw shut, (same, (λ h. rw shut (rw closed at h), (same, (same, (λ h. rw (v .sums) h, tt))))))) t;
+      unit = same-unit (e .others);
       moved = omega (arith, after-total);
-      routes = λ q. ap route (e .transfers q);
+      routes = λ q. ap route (same-transfers (e .others) q);
     }
   where
     f : Opens (seen b) p i
@@ -64,31 +67,22 @@ keptOpen b l p i d v t =
     c = openPlace b p x
 
     e : PlaceSet b c p (some x)
-    e = opened-set b p x (v .good .shape) (f .low) refl
+    e = opened-set b p x (v .good .shape) (f .low) (credits-whole (setSubject blankPlace (nameOf name)) n (whole (setSubject blankPlace (nameOf name)) refl))
 
-    a : Altered l (plainPut l p (holding name n)) p (holding name n)
-    a = plain-put l p (holding name n)
+    h : Holding
+    h = record { subject = name; balance = n }
+
+    a : Altered l (plainPut l p (some h)) p (some h)
+    a = plain-put l p (some h)
 
     nothing : coming d b p ≡ 0
     nothing = coming-closed d b (v .good) p (ap isSome closed)
 
-    same : holding name n ≡ credited (coming d b p) (shown (some x))
-    same = rw (name-bytes name, val-halves n, nothing) (ap (holding name) (omega arith))
+    alike : some h ≡ credited (coming d b p) (shown (some x))
+    alike = rw (name-bytes name, val-halves n, nothing) (ap (holding h) (omega arith))
 
     after-total : total c ≡ total b + n
-    after-total = omega (arith, total-place e (f .low), ap balanceOf closed, val-halves n)
+    after-total = omega (arith, total-place e (f .low), ap stockOf closed, val-halves n)
 
-    after-plain : plainTotal (plainPut l p (holding name n)) ≡ plainTotal l + n
-    after-plain = omega (arith, plain-total a (f .low), ap worth shut)
-
-    plain-facts : Opens (plainSeen u l) p i
-    plain-facts =
-        record {
-          low = f .low;
-          closed = rw shut;
-          sheet = f .sheet;
-          check = rw shut (rw closed at (f .check));
-          same-unit = f .same-unit;
-          short = f .short;
-          room = rw (v .sums) (f .room);
-        }
+    after-plain : plainTotal (plainPut l p (some h)) ≡ plainTotal l + n
+    after-plain = omega (arith, plain-total a (f .low), ap stock shut)

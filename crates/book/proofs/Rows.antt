@@ -1,5 +1,5 @@
 -- The balance profile's rows at a place: what an accepted check says of the amount, and that a place which holds more accepts it too.
-use mathlib.Core.Path.{_≡_, refl, sym, subst}
+use mathlib.Core.Path.{_≡_, refl, sym, ap, _∙_, subst}
 use mathlib.Core.Bool.{Bool, true, false, cond, true≢false, false≢true}
 use mathlib.Core.List.{List, [], _∷_}
 use Prim.Native.Nat.{ℕ, _≤_, _<_}
@@ -18,10 +18,10 @@ use Rattle.registry.specs.declared.error.ProfileError.the-variants.{Empty}
 use Rattle.registry.specs.declared.error.Outcome.{Outcome}
 use Rattle.registry.specs.declared.error.Outcome.the-variants.{Accepted, Refused}
 use Rattle.profiles.specs.Balance.{balanceRules, debited, credited}
-use Rattle.places.specs.Places.{placeView, closedView}
-use Rattle.places.proofs.Accepted.{Within, then-both, debit-accepted, debit-accepts, amount-in-whole}
+use Rattle.book.specs.Places.{placeView, closedView}
+use Rattle.book.proofs.Accepted.{Within, then-both, debit-accepted, debit-accepts, amount-in-whole}
 use Rattle.book.specs.Book.{credits}
-use Rattle.book.specs.Steps.{adds, acts, bytesIn}
+use Rattle.book.specs.Steps.{adds, acts, Doing, Issuing, Taking, doing, bytesIn}
 
 pub refused-never : {A : Type 0} (e : ProfileError) → Refused e ≡ Accepted → A
 refused-never e h = let z : _≡_ {A = ℕ} 0 1 = cc in absurd (omega arith)
@@ -58,6 +58,19 @@ among-all P (n ∷ ns) a o h = go (eqb o n) refl (λ k. among-all P ns (a .1) o 
     go : (x : Bool) → eqb o n ≡ x → (among o ns ≡ true → P o) → P o
     go true e r = subst P (sym (eqb-true o n e)) (a .0)
     go false e r = r (rw e at h)
+
+-- whether an operation adds, by what it does
+abbrev pub rises : Doing → Bool
+rises Issuing = true
+rises Taking = false
+
+pub adds-is : (o : ℕ) (k : Doing) → doing o ≡ k → adds o ≡ rises k
+unfolding doing
+adds-is o k e = go (adds o) refl
+  where
+    go : (x : Bool) → adds o ≡ x → adds o ≡ rises k
+    go true z = z ∙ ap rises (rw z at e)
+    go false z = z ∙ ap rises (rw z at e)
 
 -- what an accepted check says at a place whose balance is b, up: whether the operation adds, rule: its tests at a balance state
 pub record Affords (b : Amount) (inp : ℕ → Field) (up : Bool) (rule : Sight → Outcome) : Type 0 where

@@ -9,7 +9,7 @@ use native.Mathlib.Nat.{le-of-suc-le-suc, not-suc-le-zero, le-refl}
 use native.Mathlib.Decide.{ℕ-discrete}
 use native.Mathlib.Omega.{arith}
 use lib.Dec.{eqb}
-use lib.ListN.{length, getD, set}
+use lib.ListN.{length, getD, set, length-set}
 use lib.Seq.{getD-set-same, getD-set-other}
 use borrow.Author.Tests.{eq-eqb, ne-eqb}
 use Rattle.book.specs.Sets.{bit, withBit, entry, sum, every}
@@ -173,3 +173,26 @@ every-at f (suc n) h i k = go (every f n) refl (f n) refl (ℕ-discrete i n) (λ
     go true e false w d r = absurd (false≢true (rw (e, w) at h))
     go true e true w (yes z) r = ap f z ∙ w
     go true e true w (no z) r = r e (omega arith)
+
+-- ---- a table of k entries over a set: P holds of each entry, in use or not
+
+pub record Table {A : Type 0} (d : A) (P : A → Type 0) (k n : ℕ) (l : List A) : Type 0 where
+  pub size : length l ≡ k
+  pub range : n < 2 ^ k
+  pub wholes : (i : ℕ) → i < k → P (getD l i d)
+
+module _ {A : Type 0} {d : A} {P : A → Type 0} {k n : ℕ} {l : List A} (t : Table d P k n l) (p : ℕ) (x : A) (low : p < k) (w : P x) where
+  -- entry p is x, and the set is m
+  pub table-over : (m : ℕ) → m < 2 ^ k → Table d P k m (set l p x)
+  table-over m r =
+      record {
+        size = length-set l p x ∙ t .size;
+        range = r;
+        wholes = λ i h. altered-all (λ j y. P y) (get-set d l p x (rw (t .size) low)) w i (λ z. t .wholes i h);
+      }
+
+  pub table-put : (b : ℕ) → b < 2 → Table d P k (withBit n p b) (set l p x)
+  table-put b h = table-over (withBit n p b) (withBit-lt k n p b h (t .range) low)
+
+  pub table-set : Table d P k n (set l p x)
+  table-set = table-over n (t .range)

@@ -3,31 +3,34 @@ use mathlib.Core.Path.{_≡_, refl, sym, ap, _∙_}
 use mathlib.Core.Logic.{_≢_}
 use mathlib.Core.Bool.{Bool, true, false, cond, true≢false, false≢true}
 use mathlib.Core.Option.{Option, some, none}
-use mathlib.Core.List.{List}
+use mathlib.Core.List.{List, []}
 use Prim.Native.Nat.{ℕ, _+_, _^_, _<_}
 use native.Mathlib.Decide.{decLt}
 use native.Mathlib.Omega.{arith}
 use lib.Dec.{eqb}
-use lib.ListN.{length, getD, set, length-set}
+use lib.ListN.{getD}
 use borrow.Author.Tests.{eq-eqb, ne-eqb, eqb-true}
 use Rattle.amount.specs.Numbers.{limit}
-use Rattle.book.specs.Sets.{bit, withBit, entry, sum}
-use Rattle.book.specs.Book.{credits, wholeAmount, blankTransfer, noPlace, noTransfer, placeRecord, transferRecord, placeAt, transferAt, balanceOf, loadOf, balances, loads, total, isSome, nameOk, placeOk, transferOk, wellFormed, setBalance, setOpened, setPlaces, openPlace, setCredits, setTransfer}
+use Rattle.book.specs.Sets.{bit, entry, sum}
+use Rattle.book.specs.Book.{credits, blankTransfer, noPlace, noTransfer, placeRecord, transferRecord, placeAt, transferAt, stockOf, carriedBy, balances, creditsUnderWay, total, isSome, nameOk, placeOk, transferOk, wellFormed, setOpened, setPending, setPlaces, setTransfers, openPlace, setRecord, setTransfer}
 use Rattle.book.specs.declared.Place.{Place}
 use Rattle.book.specs.declared.Transfer.{Transfer}
 use Rattle.book.specs.declared.Book.{Book}
-use Rattle.book.proofs.Tables.{Altered, altered-map, altered-all, get-set, bit-high, withBit-lt, entry-in, entry-out, entry-put, entry-set, entry-drop, sum-same, sum-zero, sum-altered}
-use Rattle.book.proofs.Formed.{and-l, and-r, well-formed}
+use Rattle.book.proofs.Tables.{Altered, altered-map, altered-all, bit-high, entry-in, entry-out, entry-put, entry-set, entry-drop, Table, table-put, table-set, sum-same, sum-zero, sum-altered}
+use Rattle.book.proofs.Formed.{Whole, and-l, and-r, well-formed}
 
 -- ---- the shape of a book: lengths, ranges, and all scales 0, in use or not
 
 pub record Shape (b : Book) : Type 0 where
-  pub places : length (b .places) ≡ 16
-  pub transfers : length (b .transfers) ≡ 8
-  pub opened : b .opened < 2 ^ 16
-  pub pending : b .pending < 2 ^ 8
-  pub whole-places : (p : ℕ) → p < 16 → placeRecord b p .balance .scale ≡ 0
-  pub whole-transfers : (t : ℕ) → t < 8 → transferRecord b t .amount .scale ≡ 0
+  pub places : Table noPlace Whole 16 (b .opened) (b .places)
+  pub transfers : Table noTransfer (λ r. r .amount .scale ≡ 0) 8 (b .pending) (b .transfers)
+
+with-places : (b : Book) (n : ℕ) (l : List Place) → Shape b → Table noPlace Whole 16 n l → Shape (setPlaces (setOpened b n) l)
+with-places b n l s t = record { places = t; transfers = s .transfers }
+
+with-transfers : (b : Book) (n : ℕ) (l : List Transfer) → Shape b → Table noTransfer (λ r. r .amount .scale ≡ 0) 8 n l
+    → Shape (setTransfers (setPending b n) l)
+with-transfers b n l s t = record { places = s .places; transfers = t }
 
 -- ---- an entry that is there
 
@@ -65,93 +68,79 @@ pending-lt b s t h = go (decLt t 8)
   where
     go : Dec (t < 8) → t < 8
     go (yes l) = l
-    go (no m) = let z : bit (b .pending) t ≡ 0 = bit-high 8 (b .pending) t (s .pending) (omega arith) in absurd (omega arith)
+    go (no m) = let z : bit (b .pending) t ≡ 0 = bit-high 8 (b .pending) t (s .transfers .range) (omega arith) in absurd (omega arith)
 
 -- ---- a book in which one place, or one transfer, was set
 
+-- all but the places, or all but the transfers, is as it was
+pub record ButPlaces (b c : Book) : Type 0 where
+  pub same : setPlaces (setOpened c 0) [] ≡ setPlaces (setOpened b 0) []
+
+pub record ButTransfers (b c : Book) : Type 0 where
+  pub same : setTransfers (setPending c 0) [] ≡ setTransfers (setPending b 0) []
+
 pub record PlaceSet (b c : Book) (p : ℕ) (x : Option Place) : Type 0 where
   pub places : Altered (placeAt b) (placeAt c) p x
-  pub transfers : (t : ℕ) → transferAt c t ≡ transferAt b t
-  pub unit : c .unit ≡ b .unit
-  pub pending : c .pending ≡ b .pending
+  pub others : ButPlaces b c
   pub shape : Shape c
 
 pub record TransferSet (b c : Book) (t : ℕ) (y : Option Transfer) : Type 0 where
   pub transfers : Altered (transferAt b) (transferAt c) t y
-  pub places : (p : ℕ) → placeAt c p ≡ placeAt b p
-  pub unit : c .unit ≡ b .unit
+  pub others : ButTransfers b c
   pub shape : Shape c
 
--- the record of place p is x, and the set of open places n
-placed : (b : Book) (p n : ℕ) (x : Place) → Shape b → p < 16 → n < 2 ^ 16 → x .balance .scale ≡ 0
-    → Shape (setPlaces (setOpened b n) (set (b .places) p x))
-unfolding placeRecord transferRecord
-placed b p n x s h k w =
-    record {
-      places = length-set (b .places) p x ∙ s .places;
-      transfers = s .transfers;
-      opened = k;
-      pending = s .pending;
-      whole-places = λ q l.
-          altered-all (λ i (y : Place). y .balance .scale ≡ 0) (get-set noPlace (b .places) p x (rw (s .places) h)) w q (λ d. s .whole-places q l);
-      whole-transfers = s .whole-transfers;
-    }
+module _ {b c : Book} (e : ButPlaces b c) where
+  pub same-transfers : (t : ℕ) → transferAt c t ≡ transferAt b t
+  unfolding transferAt
+  same-transfers t = ap (λ (x : Book). transferAt x t) (e .same)
 
-pub opened-set : (b : Book) (p : ℕ) (x : Place) → Shape b → p < 16 → x .balance .scale ≡ 0 → PlaceSet b (openPlace b p x) p (some x)
-unfolding placeAt transferAt openPlace
+  pub same-unit : c .unit ≡ b .unit
+  same-unit = ap (λ (x : Book). x .unit) (e .same)
+
+module _ {b c : Book} (e : ButTransfers b c) where
+  pub same-places : (p : ℕ) → placeAt c p ≡ placeAt b p
+  unfolding placeAt
+  same-places p = ap (λ (x : Book). placeAt x p) (e .same)
+
+  pub unit-same : c .unit ≡ b .unit
+  unit-same = ap (λ (x : Book). x .unit) (e .same)
+
+pub opened-set : (b : Book) (p : ℕ) (x : Place) → Shape b → p < 16 → Whole x → PlaceSet b (openPlace b p x) p (some x)
+unfolding placeAt openPlace
 opened-set b p x s h w =
     record {
-      places = entry-put noPlace (b .opened) (b .places) p x (rw (s .places) h);
-      transfers = λ t. refl;
-      unit = refl;
-      pending = refl;
-      shape = placed b p (withBit (b .opened) p 1) x s h (withBit-lt 16 (b .opened) p 1 (omega arith) (s .opened) h) w;
+      places = entry-put noPlace (b .opened) (b .places) p x (rw (s .places .size) h);
+      others = record { same = refl };
+      shape = with-places b _ _ s (table-put (s .places) p x h w 1 (omega arith));
     }
 
--- setting the credits of an open place
-pub credits-set : (b : Book) (p n : ℕ) → Shape b → p < 16 → isSome (placeAt b p) ≡ true
-    → PlaceSet b (setCredits b p n) p (some (setBalance (placeRecord b p) (wholeAmount n)))
-unfolding placeAt transferAt setCredits
-credits-set b p n s h k =
+-- setting the record of an open place
+pub record-set : (b : Book) (p : ℕ) (x : Place) → Shape b → p < 16 → isSome (placeAt b p) ≡ true → Whole x
+    → PlaceSet b (setRecord b p x) p (some x)
+unfolding placeAt setRecord
+record-set b p x s h k w =
     record {
-      places = entry-set noPlace (b .opened) (b .places) p _ (rw (s .places) h) (place-raw b p k .0);
-      transfers = λ t. refl;
-      unit = refl;
-      pending = refl;
-      shape = placed b p (b .opened) (setBalance (placeRecord b p) (wholeAmount n)) s h (s .opened) refl;
-    }
-
-sent-set : (b : Book) (t d : ℕ) (r : Transfer) → Shape b → t < 8 → d < 2 → r .amount .scale ≡ 0 → Shape (setTransfer b t d r)
-unfolding setTransfer placeRecord transferRecord
-sent-set b t d r s h k w =
-    record {
-      places = s .places;
-      transfers = length-set (b .transfers) t r ∙ s .transfers;
-      opened = s .opened;
-      pending = withBit-lt 8 (b .pending) t d k (s .pending) h;
-      whole-places = s .whole-places;
-      whole-transfers = λ q l.
-          altered-all (λ i (y : Transfer). y .amount .scale ≡ 0) (get-set noTransfer (b .transfers) t r (rw (s .transfers) h)) w q (λ z. s .whole-transfers q l);
+      places = entry-set noPlace (b .opened) (b .places) p x (rw (s .places .size) h) (place-raw b p k .0);
+      others = record { same = refl };
+      shape = with-places b _ _ s (table-set (s .places) p x h w);
     }
 
 pub transfer-set : (b : Book) (t : ℕ) (r : Transfer) → Shape b → t < 8 → r .amount .scale ≡ 0 → TransferSet b (setTransfer b t 1 r) t (some r)
-unfolding placeAt transferAt setTransfer
+unfolding transferAt setTransfer
 transfer-set b t r s h w =
     record {
-      transfers = entry-put noTransfer (b .pending) (b .transfers) t r (rw (s .transfers) h);
-      places = λ p. refl;
-      unit = refl;
-      shape = sent-set b t 1 r s h (omega arith) w;
+      transfers = entry-put noTransfer (b .pending) (b .transfers) t r (rw (s .transfers .size) h);
+      others = record { same = refl };
+      shape = with-transfers b _ _ s (table-put (s .transfers) t r h w 1 (omega arith));
     }
 
 pub transfer-gone : (b : Book) (t : ℕ) → Shape b → t < 8 → TransferSet b (setTransfer b t 0 blankTransfer) t none
-unfolding placeAt transferAt setTransfer blankTransfer
+unfolding transferAt setTransfer blankTransfer
 transfer-gone b t s h =
     record {
       transfers = entry-drop noTransfer (b .pending) (b .transfers) t blankTransfer;
-      places = λ p. refl;
-      unit = refl;
-      shape = sent-set b t 0 blankTransfer s h (omega arith) refl;
+      others = record { same = refl };
+      shape = with-transfers b _ _ s (table-put (s .transfers) t blankTransfer h refl 0 (omega arith));
     }
 
 -- ---- totals, and what is coming to a place
@@ -165,7 +154,7 @@ toward back p none = 0
 toward back p (some r) = cond (eqb (home back r) p) (credits (r .amount)) 0
 
 -- d t: transfer t is to be cancelled
-pub coming : (ℕ → Bool) → Book → ℕ → ℕ
+unfoldable pub coming : (ℕ → Bool) → Book → ℕ → ℕ
 coming d b p = sum (λ t. toward (d t) p (transferAt b t)) 8
 
 pub toward-none : (k : Bool) (p : ℕ) → toward k p none ≡ 0
@@ -180,29 +169,29 @@ pub toward-miss : (k : Bool) (p : ℕ) (r : Transfer) → home k r ≢ p → tow
 unfolding toward
 toward-miss k p r e = rw (ne-eqb (home k r) p e)
 
+pub coming-same : (d : ℕ → Bool) (b c : Book) → ((t : ℕ) → transferAt c t ≡ transferAt b t) → (q : ℕ) → coming d c q ≡ coming d b q
+unfolding coming
+coming-same d b c e q =
+    sum-same (λ t. toward (d t) q (transferAt b t)) (λ t. toward (d t) q (transferAt c t)) 8 (λ t k. ap (toward (d t) q) (e t))
+
 module _ {b c : Book} {p : ℕ} {x : Option Place} (e : PlaceSet b c p x) where
-  pub total-place : p < 16 → total c + balanceOf (placeAt b p) ≡ total b + balanceOf x
-  unfolding total balances loads
+  pub total-place : p < 16 → total c + stockOf (placeAt b p) ≡ total b + stockOf x
+  unfolding total balances creditsUnderWay
   total-place h =
       omega (
         arith,
-        sum-altered (altered-map balanceOf (e .places)) 16 h,
-        sum-same (λ t. loadOf (transferAt b t)) (λ t. loadOf (transferAt c t)) 8 (λ t k. ap loadOf (e .transfers t)),
+        sum-altered (altered-map stockOf (e .places)) 16 h,
+        sum-same (λ t. carriedBy (transferAt b t)) (λ t. carriedBy (transferAt c t)) 8 (λ t k. ap carriedBy (same-transfers (e .others) t)),
       )
 
-  pub coming-place : (d : ℕ → Bool) (q : ℕ) → coming d c q ≡ coming d b q
-  unfolding coming
-  coming-place d q =
-      sum-same (λ t. toward (d t) q (transferAt b t)) (λ t. toward (d t) q (transferAt c t)) 8 (λ t k. ap (toward (d t) q) (e .transfers t))
-
 module _ {b c : Book} {t : ℕ} {y : Option Transfer} (e : TransferSet b c t y) where
-  pub total-transfer : t < 8 → total c + loadOf (transferAt b t) ≡ total b + loadOf y
-  unfolding total balances loads
+  pub total-transfer : t < 8 → total c + carriedBy (transferAt b t) ≡ total b + carriedBy y
+  unfolding total balances creditsUnderWay
   total-transfer h =
       omega (
         arith,
-        sum-altered (altered-map loadOf (e .transfers)) 8 h,
-        sum-same (λ p. balanceOf (placeAt b p)) (λ p. balanceOf (placeAt c p)) 16 (λ p k. ap balanceOf (e .places p)),
+        sum-altered (altered-map carriedBy (e .transfers)) 8 h,
+        sum-same (λ p. stockOf (placeAt b p)) (λ p. stockOf (placeAt c p)) 16 (λ p k. ap stockOf (same-places (e .others) p)),
       )
 
   -- the fates d before and d′ after may differ at t alone
@@ -246,9 +235,9 @@ pub good-place : {b c : Book} {p : ℕ} {x : Place} → PlaceSet b c p (some x) 
 good-place {b} {c} {p} {x} e k g =
     record {
       shape = e .shape;
-      unit = rw (e .unit) (g .unit);
+      unit = rw (same-unit (e .others)) (g .unit);
       places = λ q h. altered-all (λ i o. placeOk o ≡ true) (e .places) k q (λ d. g .places q h);
-      transfers = λ t h. rw (e .transfers t) (ok-mono b c stays (transferAt b t) (g .transfers t h));
+      transfers = λ t h. rw (same-transfers (e .others) t) (ok-mono b c stays (transferAt b t) (g .transfers t h));
     }
   where
     stays : (q : ℕ) → isSome (placeAt b q) ≡ true → isSome (placeAt c q) ≡ true
@@ -258,24 +247,25 @@ pub good-transfer : {b c : Book} {t : ℕ} {y : Option Transfer} → TransferSet
 good-transfer {b} {c} {t} {y} e k g =
     record {
       shape = e .shape;
-      unit = rw (e .unit) (g .unit);
-      places = λ q h. rw (e .places q) (g .places q h);
+      unit = rw (unit-same (e .others)) (g .unit);
+      places = λ q h. rw (same-places (e .others) q) (g .places q h);
       transfers = λ s h. ok-mono b c stays (transferAt c s) (altered-all (λ i o. transferOk b o ≡ true) (e .transfers) k s (λ d. g .transfers s h));
     }
   where
     stays : (q : ℕ) → isSome (placeAt b q) ≡ true → isSome (placeAt c q) ≡ true
-    stays q h = rw (e .places q) h
+    stays q h = rw (same-places (e .others) q) h
 
 -- a sound book passes the test of refusal 28
 pub passes-28 : (b : Book) → Good b → total b < limit → wellFormed b ≡ true
+unfolding placeRecord transferRecord
 passes-28 b g h =
     well-formed b (
     record {
       fits = h;
       unit = g .unit;
       places = g .places;
-      whole-places = g .shape .whole-places;
-      whole-transfers = g .shape .whole-transfers;
+      whole-places = g .shape .places .wholes;
+      whole-transfers = g .shape .transfers .wholes;
       transfers = g .transfers;
     }
     )

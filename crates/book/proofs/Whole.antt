@@ -15,10 +15,10 @@ use Rattle.amount.specs.Numbers.{limit}
 use Rattle.sheet.specs.Fields.{unit}
 use Rattle.registry.specs.declared.error.ProfileError.the-variants.{Empty}
 use Rattle.book.specs.Sets.{bit, withBit, every, count}
-use Rattle.book.specs.Book.{nameBytes, nameOf, blankPlace, blankTransfer, blankBook, noPlace, noTransfer, placeRecord, transferRecord, placeAt, transferAt, balanceOf, loadOf, balances, loads, total, nameOk, setUnit, setCredits, setTransfer}
-use Rattle.book.specs.Steps.{Step, Open, Act, Begin, Finish, refusedIf, firstRefusal, testsOf, seen, answer, effect, next, startAnswer, startBook}
-use Rattle.book.specs.Plain.{Holding, Plain, emptyPlain, worth, plainTotal, plainAnswer, plainEffect, plainNext}
-use Rattle.book.specs.Claim.{run, acceptedOf, plainRun, PlainAccepts, issued, taken, Route, route, underWay, cellAt, EachOnce, Sound, Settled, Claim}
+use Rattle.book.specs.Book.{nameBytes, nameOf, blankPlace, blankTransfer, blankBook, noPlace, noTransfer, placeRecord, transferRecord, placeAt, transferAt, stockOf, carriedBy, balances, creditsUnderWay, total, nameOk, setUnit, scalesOk, setRecord, setTransfer}
+use Rattle.book.specs.Steps.{Step, Open, Act, Begin, Finish, Route, refusedIf, firstRefusal, testsOf, seen, answer, effect, next, startAnswer, startBook}
+use Rattle.book.specs.Plain.{Holding, Plain, emptyPlain, stock, plainTotal, plainAnswer, plainEffect, plainNext}
+use Rattle.book.specs.Claim.{run, acceptedOf, plainRun, PlainAccepts, issued, taken, route, underWay, cellAt, EachOnce, Sound, Settled, Claim}
 use Rattle.book.specs.declared.Name.{Name}
 use Rattle.book.specs.declared.Book.{Book}
 use Rattle.book.specs.declared.error.BookError.{BookError}
@@ -28,6 +28,7 @@ use Rattle.book.specs.declared.error.BookOutcome.the-variants.{Accepted,
 use Rattle.book.proofs.Tables.{bit-lt, bit-same, bit-other, bit-high, bits-zero, entry-out, sum-zero, every-at}
 use Rattle.book.proofs.Names.{name-bytes, name-ok}
 use Rattle.book.proofs.Facts.{passed, unmet, accepted-tests}
+use Rattle.book.proofs.Formed.{whole}
 use Rattle.book.proofs.Views.{Shape, passes-28, none-coming}
 use Rattle.book.proofs.Orders.{members, an-order}
 use Rattle.book.proofs.Invariant.{forth, Inv, Kept, credited, holding}
@@ -38,7 +39,7 @@ use Rattle.book.proofs.Finishes.{keptFinish, finishable}
 
 -- ---- one step: a case for each kind
 
-kept : (b : Book) (l : Plain) (s : Step) → Inv forth b l → answer b s ≡ Accepted → Kept forth b l s
+pub kept : (b : Book) (l : Plain) (s : Step) → Inv forth b l → answer b s ≡ Accepted → Kept forth b l s
 kept b l s v h = go s (accepted-tests b s h .1)
   where
     go : (s : Step) → firstRefusal (testsOf (seen b) s) ≡ Accepted → Kept forth b l s
@@ -111,12 +112,18 @@ blank-shape : (n : Name) → Shape (setUnit blankBook n)
 unfolding every placeRecord transferRecord blankBook blankPlace blankTransfer
 blank-shape n =
     record {
-      places = refl;
-      transfers = refl;
-      opened = lit< tt;
-      pending = lit< tt;
-      whole-places = λ p k. eqb-true _ 0 (every-at (λ q. eqb (placeRecord (setUnit blankBook n) q .balance .scale) 0) 16 refl p k);
-      whole-transfers = λ t k. eqb-true _ 0 (every-at (λ q. eqb (transferRecord (setUnit blankBook n) q .amount .scale) 0) 8 refl t k);
+      places =
+          record {
+            size = refl;
+            range = lit< tt;
+            wholes = λ p k. whole _ (every-at (λ q. scalesOk (placeRecord (setUnit blankBook n) q)) 16 refl p k);
+          };
+      transfers =
+          record {
+            size = refl;
+            range = lit< tt;
+            wholes = λ t k. eqb-true _ 0 (every-at (λ q. eqb (transferRecord (setUnit blankBook n) q .amount .scale) 0) 8 refl t k);
+          };
     }
 
 module _ (u : List ℕ) (h : startAnswer u ≡ Accepted) where
@@ -143,12 +150,12 @@ module _ (u : List ℕ) (h : startAnswer u ≡ Accepted) where
   no-transfer t = rw fresh (entry-out noTransfer 0 (replicate 8 blankTransfer) t (bit-zero t))
 
   total-fresh : total (startBook u) ≡ 0
-  unfolding total balances loads
+  unfolding total balances creditsUnderWay
   total-fresh =
       omega (
         arith,
-        sum-zero (λ p. balanceOf (placeAt (startBook u) p)) 16 (λ p k. ap balanceOf (no-place p)),
-        sum-zero (λ t. loadOf (transferAt (startBook u) t)) 8 (λ t k. ap loadOf (no-transfer t)),
+        sum-zero (λ p. stockOf (placeAt (startBook u) p)) 16 (λ p k. ap stockOf (no-place p)),
+        sum-zero (λ t. carriedBy (transferAt (startBook u) t)) 8 (λ t k. ap carriedBy (no-transfer t)),
       )
 
   start : (d : ℕ → Bool) → Inv d (startBook u) emptyPlain
@@ -163,14 +170,14 @@ module _ (u : List ℕ) (h : startAnswer u ≡ Accepted) where
               transfers = λ t k. rw (no-transfer t);
             };
         fits = rw total-fresh (lit< tt);
-        sums = sum-zero (λ p. worth (emptyPlain p)) 16 (λ p k. refl) ∙ sym total-fresh;
+        sums = sum-zero (λ p. stock (emptyPlain p)) 16 (λ p k. refl) ∙ sym total-fresh;
         matches = λ p k. rw (no-place p);
       }
 
 -- ---- finishing, in any order
 
 freed : (b : Book) (t : ℕ) → effect b (Finish t) .pending ≡ withBit (b .pending) t 0
-unfolding setTransfer setCredits
+unfolding setTransfer setRecord
 freed b t = refl
 
 count-head : (t : ℕ) (ts : List ℕ) → count t (t ∷ ts) ≡ 1 + count t ts
@@ -198,13 +205,13 @@ rest-once b t ts o s = rw (freed b t) (go (ℕ-discrete s t))
 
 uncredited : (o : Option Holding) → credited 0 o ≡ o
 uncredited none = refl
-uncredited (some h) = ap (holding (h .subject)) (add-zero (h .balance))
+uncredited (some h) = ap (holding h) (add-zero (h .balance))
 
 settle : (order : List ℕ) (b : Book) (l : Plain) → Inv forth b l → EachOnce b order → Settled b l order
 settle [] b l v o =
     record {
       finished = tt;
-      none-left = bits-zero 8 (b .pending) (v .good .shape .pending) idle;
+      none-left = bits-zero 8 (b .pending) (v .good .shape .transfers .range) idle;
       same = λ p k. sym (v .matches p k ∙ rw (none-coming forth b idle p) (uncredited (cellAt b p)));
     }
   where

@@ -16,7 +16,7 @@ use Rattle.registry.specs.declared.error.Answer.{Answer}
 use Rattle.profiles.specs.Balance.{balanceRules}
 use Rattle.book.specs.Sets.{bit, withBit, entry, sum, every}
 use Rattle.book.specs.Refusals.{answerOf}
-use Rattle.book.specs.Book.{wholeAmount, nameBytes, nameOf, blankName, blankPlace, blankTransfer, blankBook, placeRecord, transferRecord, placeAt, transferAt, balances, loads, total, nameOk, wellFormed, openPlace, setCredits, setTransfer}
+use Rattle.book.specs.Book.{wholeAmount, nameBytes, nameOf, blankName, blankPlace, blankTransfer, blankBook, placeRecord, transferRecord, placeAt, transferAt, balances, creditsUnderWay, total, nameOk, wellFormed, openPlace, setRecord, setTransfer}
 use Rattle.book.specs.Steps.{Step, Open, Begin, Finish, creditsIn, bytesIn, testsOpen, testsBegin, testsFinish, seen, answer, next, startAnswer, startBook}
 use Rattle.book.specs.Claim.{run, cellAt}
 use Rattle.book.specs.declared.Book.{Book}
@@ -52,5 +52,5 @@ pub worked : (
     map (cellAt (run (startBook unit) session)) (0 ∷ 1 ∷ [])
     ≡ some (record { subject = 78 ∷ 49 ∷ []; balance = 0 }) ∷ some (record { subject = 78 ∷ 50 ∷ []; balance = 5 }) ∷ []
     )
-unfolding val limit halves orderOf allDigits digitsAfter decimal amountIf readOf compareOf zeros allTo sumTo prior entryAt entriesFrom lookup soundAs field textIn bytesOf marked parsed amountBy amountOf stateAbsent stateThere aboveZero heldBy balanceRules bit withBit entry sum every nameBytes nameOf blankName blankPlace blankTransfer blankBook placeRecord transferRecord placeAt transferAt balances loads total nameOk wellFormed openPlace setCredits setTransfer creditsIn bytesIn testsOpen testsBegin testsFinish seen answer next startAnswer startBook
+unfolding val limit halves orderOf allDigits digitsAfter decimal amountIf readOf compareOf zeros allTo sumTo prior entryAt entriesFrom lookup soundAs field textIn bytesOf marked parsed amountBy amountOf stateAbsent stateThere aboveZero heldBy balanceRules bit withBit entry sum every nameBytes nameOf blankName blankPlace blankTransfer blankBook placeRecord transferRecord placeAt transferAt balances creditsUnderWay total nameOk wellFormed openPlace setRecord setTransfer creditsIn bytesIn testsOpen testsBegin testsFinish seen answer next startAnswer startBook
 worked = (refl, refl)

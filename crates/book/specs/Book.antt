@@ -97,19 +97,23 @@ abbrev pub balanceOf : Option Place → ℕ
 balanceOf none = 0
 balanceOf (some x) = credits (x .balance)
 
-abbrev pub loadOf : Option Transfer → ℕ
-loadOf none = 0
-loadOf (some r) = credits (r .amount)
+abbrev pub carriedBy : Option Transfer → ℕ
+carriedBy none = 0
+carriedBy (some r) = credits (r .amount)
+
+-- what the total counts of a place
+abbrev pub stockOf : Option Place → ℕ
+stockOf o = balanceOf o
 
 -- the open places' balances, and the credits under way
 unfoldable pub balances : Book → ℕ
-balances b = sum (λ p. balanceOf (placeAt b p)) 16
+balances b = sum (λ p. stockOf (placeAt b p)) 16
 
-unfoldable pub loads : Book → ℕ
-loads b = sum (λ t. loadOf (transferAt b t)) 8
+unfoldable pub creditsUnderWay : Book → ℕ
+creditsUnderWay b = sum (λ t. carriedBy (transferAt b t)) 8
 
 unfoldable pub total : Book → ℕ
-total b = balances b + loads b
+total b = balances b + creditsUnderWay b
 
 -- ---- refusal 28
 
@@ -125,6 +129,9 @@ abbrev pub placeOk : Option Place → Bool
 placeOk none = true
 placeOk (some x) = nameOk (x .subject)
 
+abbrev pub scalesOk : Place → Bool
+scalesOk x = eqb (x .balance .scale) 0
+
 -- both ends are open
 abbrev pub transferOk : Book → Option Transfer → Bool
 transferOk b none = true
@@ -134,7 +141,7 @@ transferOk b (some r) = isSome (placeAt b (r .from)) && isSome (placeAt b (r .to
 unfoldable pub wellFormed : Book → Bool
 wellFormed b =
     ltb (total b) limit && nameOk (b .unit) && every (λ p. placeOk (placeAt b p)) 16
-    && every (λ p. eqb (placeRecord b p .balance .scale) 0) 16
+    && every (λ p. scalesOk (placeRecord b p)) 16
     && every (λ t. eqb (transferRecord b t .amount .scale) 0) 8
     && every (λ t. transferOk b (transferAt b t)) 8
 
@@ -144,9 +151,13 @@ wellFormed b =
 unfoldable pub openPlace : Book → ℕ → Place → Book
 openPlace b p x = setPlaces (setOpened b (withBit (b .opened) p 1)) (set (b .places) p x)
 
+-- the record of place p is x
+unfoldable pub setRecord : Book → ℕ → Place → Book
+setRecord b p x = setPlaces b (set (b .places) p x)
+
 -- place p holds n credits
-unfoldable pub setCredits : Book → ℕ → ℕ → Book
-setCredits b p n = setPlaces b (set (b .places) p (setBalance (placeRecord b p) (wholeAmount n)))
+abbrev pub setCredits : Book → ℕ → ℕ → Book
+setCredits b p n = setRecord b p (setBalance (placeRecord b p) (wholeAmount n))
 
 -- transfer t is under way (d is 1) or not (0), and its record is r
 unfoldable pub setTransfer : Book → ℕ → ℕ → Transfer → Book

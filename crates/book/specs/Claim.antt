@@ -6,10 +6,9 @@ use mathlib.Core.List.{List, [], _∷_, map}
 use Prim.Native.Nat.{ℕ, _+_, _<_}
 use lib.Dec.{eqb}
 use lib.ListN.{take}
-use Rattle.sheet.specs.Fields.{amount}
 use Rattle.book.specs.Sets.{bit, count}
 use Rattle.book.specs.Book.{credits, nameBytes, wellFormed, placeAt, transferAt, total}
-use Rattle.book.specs.Steps.{Step, Open, Act, Begin, Finish, creditsIn, answer, next, startAnswer, startBook, issues, takes}
+use Rattle.book.specs.Steps.{Step, Finish, answer, next, startAnswer, startBook, issues, takes, Route, Way, Begins, Ends, Stays, way}
 use Rattle.book.specs.Plain.{Holding, Plain, emptyPlain, plainAnswer, plainNext}
 use Rattle.book.specs.declared.Place.{Place}
 use Rattle.book.specs.declared.Transfer.{Transfer}
@@ -47,22 +46,15 @@ abbrev pub taken : List Step → ℕ
 taken [] = 0
 taken (s ∷ ss) = takes s + taken ss
 
--- a transfer under way: its ends and its credits
-pub record Route : Type 0 where
-  pub from : ℕ
-  pub to : ℕ
-  pub credits : ℕ
-
--- what a step makes of the transfers under way: a begin begins one of its amount, a finish ends one
-abbrev pub noted : Step → (ℕ → Option Route) → ℕ → Option Route
-noted (Open p i) m = m
-noted (Act p o i) m = m
-noted (Begin f g t i) m = λ q. cond (eqb q t) (some (record { from = f; to = g; credits = creditsIn amount i })) (m q)
-noted (Finish t) m = λ q. cond (eqb q t) none (m q)
+-- what a step makes of the transfers under way
+abbrev pub noted : Way → (ℕ → Option Route) → ℕ → Option Route
+noted (Begins t r) m = λ q. cond (eqb q t) (some r) (m q)
+noted (Ends t) m = λ q. cond (eqb q t) none (m q)
+noted Stays m = m
 
 abbrev pub underWay : (ℕ → Option Route) → List Step → ℕ → Option Route
 underWay m [] = m
-underWay m (s ∷ ss) = underWay (noted s m) ss
+underWay m (s ∷ ss) = underWay (noted (way s) m) ss
 
 -- what the book says of them
 abbrev pub route : Option Transfer → Option Route
@@ -80,9 +72,12 @@ PlainAccepts u l [] = Unit {0}
 PlainAccepts u l (s ∷ ss) = (plainAnswer u l s ≡ Accepted) × PlainAccepts u (plainNext u l s) ss
 
 -- "Compared are the open places, their subjects and balances": nothing where a place is closed
+abbrev pub cell : Place → Holding
+cell x = record { subject = nameBytes (x .subject); balance = credits (x .balance) }
+
 abbrev pub shown : Option Place → Option Holding
 shown none = none
-shown (some x) = some (record { subject = nameBytes (x .subject); balance = credits (x .balance) })
+shown (some x) = some (cell x)
 
 abbrev pub cellAt : Book → ℕ → Option Holding
 cellAt b p = shown (placeAt b p)

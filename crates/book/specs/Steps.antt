@@ -16,8 +16,8 @@ use Rattle.registry.specs.declared.error.Outcome.{Outcome}
 use Rattle.registry.specs.declared.error.Outcome.the-variants as Check
 use Rattle.registry.specs.declared.error.ProfileError.the-variants.{UnknownOperation, Born, Unborn, Empty}
 use Rattle.profiles.specs.Balance.{balanceRules}
-use Rattle.places.specs.Places.{placeView, closedView, putField}
-use Rattle.book.specs.Book.{credits, wholeAmount, nameBytes, nameOf, blankPlace, blankBook, blankTransfer, placeRecord, transferRecord, placeAt, transferAt, total, isSome, wellFormed, setSubject, setBalance, setUnit, openPlace, setCredits, setTransfer}
+use Rattle.book.specs.Places.{placeView, closedView, putField}
+use Rattle.book.specs.Book.{credits, wholeAmount, nameBytes, nameOf, blankPlace, blankBook, blankTransfer, placeRecord, transferRecord, placeAt, transferAt, total, isSome, wellFormed, setSubject, setBalance, setUnit, openPlace, setRecord, setCredits, setTransfer}
 use Rattle.book.specs.declared.Place.{Place}
 use Rattle.book.specs.declared.Book.{Book}
 use Rattle.book.specs.declared.error.BookError.{BookError}
@@ -48,7 +48,15 @@ adds o = among o (12 ∷ 13 ∷ 17 ∷ [])
 unfoldable pub acts : ℕ → Bool
 acts o = among o (12 ∷ 13 ∷ 14 ∷ 16 ∷ 17 ∷ 18 ∷ 19 ∷ [])
 
--- what a place holds after an act of v
+-- what they do: those that add issue, the rest take
+pub data Doing : Type 0 where
+  Issuing : Doing
+  Taking : Doing
+
+unfoldable pub doing : ℕ → Doing
+doing o = cond (adds o) Issuing Taking
+
+-- the balance after an act of v
 abbrev pub changed : ℕ → ℕ → ℕ → ℕ
 changed o held v = cond (adds o) (held + v) (held - v)
 
@@ -106,7 +114,12 @@ testsOpen s p i =
     ∷ refusedIf (leb limit (s .total + creditsIn balance i)) TooMuch
     ∷ []
 
--- act: 22, 6, 2, 4 unless 12, 13, 14, 16, 17, 18, 19; check; 25, which only what adds can meet
+-- after the check of an act of v at place p: 25, which only what issues can meet
+abbrev pub afterCheck : Doing → Seen → ℕ → ℕ → BookOutcome
+afterCheck Issuing s p v = refusedIf (leb limit (s .total + v)) TooMuch
+afterCheck Taking s p v = Accepted
+
+-- act: 22, 6, 2, 4 unless 12, 13, 14, 16, 17, 18, 19; check; 25
 unfoldable pub testsAct : Seen → ℕ → ℕ → List ℕ → List BookOutcome
 testsAct s p o i =
     refusedIf (leb 16 p) OffTheBook
@@ -114,7 +127,7 @@ testsAct s p o i =
     ∷ sheetSound i
     ∷ refusedIf (not (acts o)) (Profile UnknownOperation)
     ∷ checkAt s p (field i) o
-    ∷ refusedIf (adds o && leb limit (s .total + creditsIn amount i)) TooMuch
+    ∷ afterCheck (doing o) s p (creditsIn amount i)
     ∷ []
 
 -- begin: 22, 24, 21, 6 (either place), 2, balance.transfer's check
@@ -163,6 +176,10 @@ answer b s = firstRefusal (refusedIf (not (wellFormed b)) BadBook ∷ testsOf (s
 abbrev pub heldAt : Book → ℕ → ℕ
 heldAt b p = credits (placeRecord b p .balance)
 
+-- a place after an act of v
+abbrev pub actOn : ℕ → ℕ → Place → Place
+actOn o v x = setBalance x (wholeAmount (changed o (credits (x .balance)) v))
+
 -- begin leaves this at the source, and finish makes this of what the destination holds
 abbrev pub lessened : ℕ → ℕ → ℕ
 lessened held v = held - v
@@ -170,17 +187,19 @@ lessened held v = held - v
 abbrev pub raised : ℕ → ℕ → ℕ
 raised held v = held + v
 
+-- the credits of transfer t join what place p holds; the number is free again and its record zeros
+abbrev pub landed : Book → ℕ → ℕ → Book
+landed b t p = setTransfer (setCredits b p (raised (heldAt b p) (credits (transferRecord b t .amount)))) t 0 blankTransfer
+
 -- THE EFFECT of an accepted step
 abbrev pub effect : Book → Step → Book
 effect b (Open p i) =
     openPlace b p (setBalance (setSubject blankPlace (nameOf (bytesIn subject i))) (wholeAmount (creditsIn balance i)))
-effect b (Act p o i) = setCredits b p (changed o (heldAt b p) (creditsIn amount i))
+effect b (Act p o i) = setRecord b p (actOn o (creditsIn amount i) (placeRecord b p))
 effect b (Begin f g t i) =
     setTransfer (setCredits b f (lessened (heldAt b f) (creditsIn amount i))) t 1
     (record { from = f; to = g; amount = wholeAmount (creditsIn amount i) })
-effect b (Finish t) =
-    let r = transferRecord b t in
-    setTransfer (setCredits b (r .to) (raised (heldAt b (r .to)) (credits (r .amount)))) t 0 blankTransfer
+effect b (Finish t) = landed b t (transferRecord b t .to)
 
 -- a refused step changes nothing
 abbrev pub after : {A : Type 0} → BookOutcome → A → A → A
@@ -199,16 +218,55 @@ startAnswer u =
 unfoldable pub startBook : List ℕ → Book
 startBook u = after (startAnswer u) (setUnit blankBook (nameOf u)) blankBook
 
--- ---- what an accepted step issues and takes, by its sheet
+-- ---- what an accepted step issues or takes, by its sheet
+
+pub data Flow : Type 0 where
+  Issues : (credits : ℕ) → Flow
+  Takes : (credits : ℕ) → Flow
+  Neither : Flow
+
+abbrev pub actFlow : Doing → ℕ → Flow
+actFlow Issuing n = Issues n
+actFlow Taking n = Takes n
+
+abbrev pub flow : Step → Flow
+flow (Open p i) = Issues (creditsIn balance i)
+flow (Act p o i) = actFlow (doing o) (creditsIn amount i)
+flow (Begin f g t i) = Neither
+flow (Finish t) = Neither
+
+abbrev pub inflow : Flow → ℕ
+inflow (Issues n) = n
+inflow (Takes n) = 0
+inflow Neither = 0
+
+abbrev pub outflow : Flow → ℕ
+outflow (Issues n) = 0
+outflow (Takes n) = n
+outflow Neither = 0
 
 abbrev pub issues : Step → ℕ
-issues (Open p i) = creditsIn balance i
-issues (Act p o i) = cond (adds o) (creditsIn amount i) 0
-issues (Begin f g t i) = 0
-issues (Finish t) = 0
+issues s = inflow (flow s)
 
 abbrev pub takes : Step → ℕ
-takes (Open p i) = 0
-takes (Act p o i) = cond (adds o) 0 (creditsIn amount i)
-takes (Begin f g t i) = 0
-takes (Finish t) = 0
+takes s = outflow (flow s)
+
+-- ---- what an accepted step does to the transfers under way
+
+-- a transfer under way: its ends and its credits
+pub record Route : Type 0 where
+  pub from : ℕ
+  pub to : ℕ
+  pub credits : ℕ
+
+-- it begins one, ends one, or neither
+pub data Way : Type 0 where
+  Begins : (transfer : ℕ) (route : Route) → Way
+  Ends : (transfer : ℕ) → Way
+  Stays : Way
+
+abbrev pub way : Step → Way
+way (Open p i) = Stays
+way (Act p o i) = Stays
+way (Begin f g t i) = Begins t (record { from = f; to = g; credits = creditsIn amount i })
+way (Finish t) = Ends t

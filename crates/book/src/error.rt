@@ -7,6 +7,23 @@ use registry::error;
 use registry::error::Answer;
 use registry::error::ProfileError;
 
+// Document 01's number of each.
+pub const UNDER_WAY: u8 = 21;
+
+pub const OFF_THE_BOOK: u8 = 22;
+
+pub const IDLE: u8 = 23;
+
+pub const ITSELF: u8 = 24;
+
+pub const TOO_MUCH: u8 = 25;
+
+pub const OTHER_UNIT: u8 = 26;
+
+pub const LONG_NAME: u8 = 27;
+
+pub const BAD_BOOK: u8 = 28;
+
 pub enum BookError {
     Profile(ProfileError),
     UnderWay,
@@ -44,14 +61,14 @@ pub fn refusal(e: BookError) -> Answer
 {
     match e {
         BookError::Profile(p) => error::refusal(p),
-        BookError::UnderWay => plain(21, 0),
-        BookError::OffTheBook => plain(22, 0),
-        BookError::Idle => plain(23, 0),
-        BookError::Itself => plain(24, 0),
-        BookError::TooMuch => plain(25, 0),
-        BookError::OtherUnit => plain(26, 0),
-        BookError::LongName(name) => plain(27, name),
-        BookError::BadBook => plain(28, 0),
+        BookError::UnderWay => plain(UNDER_WAY, 0),
+        BookError::OffTheBook => plain(OFF_THE_BOOK, 0),
+        BookError::Idle => plain(IDLE, 0),
+        BookError::Itself => plain(ITSELF, 0),
+        BookError::TooMuch => plain(TOO_MUCH, 0),
+        BookError::OtherUnit => plain(OTHER_UNIT, 0),
+        BookError::LongName(name) => plain(LONG_NAME, name),
+        BookError::BadBook => plain(BAD_BOOK, 0),
     }
 }
 

@@ -4,10 +4,17 @@ use amount::Amount;
 
 pub mod error;
 
+// How many places a book has, and how many transfer numbers; the most bytes of a name.
+pub const PLACES: usize = 16;
+
+pub const TRANSFERS: usize = 8;
+
+pub const NAME_BYTES: usize = 32;
+
 // A text of at most 32 bytes: the first `len` of `bytes`.
 #[repr(C)]
 pub struct Name {
-    pub bytes: [u8; 32],
+    pub bytes: [u8; NAME_BYTES],
     pub len: u8,
 }
 
@@ -32,6 +39,6 @@ pub struct Book {
     pub unit: Name,
     pub opened: u16,
     pub pending: u8,
-    pub places: [Place; 16],
-    pub transfers: [Transfer; 8],
+    pub places: [Place; PLACES],
+    pub transfers: [Transfer; TRANSFERS],
 }

@@ -1,18 +1,25 @@
 // Puts the steps of random lists to the book: standard input is what tools/book_cases.py wrote (it has the records'
-// form), with each answer that is expected and, at a list's end, the book.
+// form), with each answer that is expected and, at a list's end, the book. Then the list goes through the run of a session.
 ghost use mathlib.Core.Path.{_≡_};
-ghost use Prim.Native.Nat.{_≤_};
+ghost use Prim.Native.Nat.{_<_, _≤_};
 ghost use lib.ListN.{length};
 use amount::Amount;
 use amount::Uint128;
 use book::Book;
 use book::Name;
+use book::PLACES;
 use book::Place;
+use book::TRANSFERS;
 use book::Transfer;
-use book::error;
 use libc::STDIN_FILENO;
 use libc::STDOUT_FILENO;
 use registry::error::Answer;
+use session::MAX_STEPS;
+use session::Run;
+use session::running;
+use steps::Step;
+use steps::Turn;
+use steps::View;
 
 // The kinds of records. 1 to 4 are the steps, as in a session.
 const START: u8 = 0;
@@ -29,18 +36,24 @@ const ALTER: u8 = 5;
 
 const LOOK: u8 = 6;
 
+const RUN: u8 = 7;
+
 // The largest number of a refusal.
 const LAST: u8 = 28;
 
 // The counts stand in pairs, equal and unequal: those of the numbers 0 to 28, and of the books; then the alterations, and
-// the altered books that met 28.
-const COUNTS: usize = 64;
+// the altered books that met 28; then the runs, and the answers in them.
+const COUNTS: usize = 68;
 
 const BOOKS: usize = 29;
 
 const ALTERED: usize = 30;
 
 const BAD: usize = 31;
+
+const RUNS: usize = 32;
+
+const RUN_ANSWERS: usize = 33;
 
 // No record is so long.
 const NOWHERE: usize = 100000;
@@ -72,7 +85,7 @@ fn size(r: &[u8]) -> usize
 {
     let at = answer_at(r);
     let kind = sheet::byte(r, 0);
-    if LOOK < kind {
+    if RUN < kind {
         return 0;
     }
     let mut end = at;
@@ -86,44 +99,101 @@ fn size(r: &[u8]) -> usize
             at + 2
         };
     }
+    if kind == RUN {
+        end = at + 2 + sheet::u16_at(r, at) as usize;
+    }
     if r.len() < end {
         return 0;
     }
     end
 }
 
-// ---- the book
+// The step of a record, without its sheet. Another kind is none.
+enum Entry {
+    Step(Step),
+    NoStep,
+}
 
-// What the record's step answers.
-fn answer(book: Book, r: &[u8]) -> Answer {
+fn step_of(r: &[u8]) -> Entry {
     let kind = sheet::byte(r, 0);
     let a = sheet::byte(r, 1);
     let b = sheet::byte(r, 2);
     let t = sheet::byte(r, 3);
     match kind {
-        START => error::answer_of(steps::start_outcome(body(r))),
-        OPEN => error::answer_of(steps::open_outcome(book, a, body(r))),
-        ACT => error::answer_of(steps::act_outcome(book, a, b, body(r))),
-        BEGIN => error::answer_of(steps::begin_outcome(book, a, b, t, body(r))),
-        _ => error::answer_of(steps::finish_outcome(book, t)),
+        OPEN => Entry::Step(Step::Open(a)),
+        ACT => Entry::Step(Step::Act(a, b)),
+        BEGIN => Entry::Step(Step::Begin(a, b, t)),
+        FINISH => Entry::Step(Step::Finish(t)),
+        _ => Entry::NoStep,
     }
 }
 
-// The book after the record.
-fn after(book: Book, r: &[u8]) -> Book {
-    let kind = sheet::byte(r, 0);
-    let a = sheet::byte(r, 1);
-    let b = sheet::byte(r, 2);
-    let t = sheet::byte(r, 3);
-    match kind {
-        START => steps::start_book(body(r)),
-        OPEN => steps::open_book(book, a, body(r)),
-        ACT => steps::act_book(book, a, b, body(r)),
-        BEGIN => steps::begin_book(book, a, b, t, body(r)),
-        FINISH => steps::finish_book(book, t),
-        ALTER => altered(book, a, b as usize, t),
-        _ => book,
-    }
+// ---- the book
+
+// Which records a step looks at. The remainders change nothing: they show without a proof that an index is in its array.
+fn transfer_at(step: Step) -> usize
+    ensures { λ k. ⌜ k < 8 ⌝ }
+{
+    steps::transfer_of(step) as usize % TRANSFERS
+}
+
+fn place_at(step: Step, to: u8) -> usize
+    ensures { λ i. ⌜ i < 16 ⌝ }
+{
+    steps::place_of(step, to) as usize % PLACES
+}
+
+fn destination_at(step: Step) -> usize
+    ensures { λ i. ⌜ i < 16 ⌝ }
+{
+    steps::destination_of(step) as usize % PLACES
+}
+
+// The step's turn on what the book holds, read as `lent` and `session` read it. The book may be any: test 28 is judged here at each step.
+fn turn_at(book: Book, step: Step, sheet: &[u8]) -> Turn {
+    let total = audit::total_of(book);
+    let sum = total.sum;
+    let transfer = book.transfers[transfer_at(step)];
+    let amount = transfer.amount;
+    let carried = amount.mantissa;
+    let place = book.places[place_at(step, transfer.to)];
+    let balance = place.balance;
+    let held = balance.mantissa;
+    let destination = book.places[destination_at(step)];
+    let unit = book.unit;
+    let was = View {
+        held,
+        carried,
+        total: sum,
+        opened: book.opened,
+        pending: book.pending,
+        from: transfer.from,
+        to: transfer.to,
+        named: steps::length_of(destination.subject),
+        sound: total.sound,
+    };
+    steps::take_turn(step, was, unit, sheet)
+}
+
+// The book with what the turn leaves, stored where it was read.
+fn stored(mut book: Book, step: Step, turn: Turn, sheet: &[u8]) -> Book {
+    let left = turn.left;
+    let k = transfer_at(step);
+    let i = place_at(step, book.transfers[k].to);
+    book.places[i].balance.mantissa.hi = left.held.hi;
+    book.places[i].balance.mantissa.lo = left.held.lo;
+    book.transfers[k].from = left.from;
+    book.transfers[k].to = left.to;
+    book.transfers[k].amount.mantissa.hi = left.carried.hi;
+    book.transfers[k].amount.mantissa.lo = left.carried.lo;
+    book.opened = left.opened;
+    book.pending = left.pending;
+    let mut place = book.places[i];
+    let subject = place.subject;
+    let subject = steps::subject_after(step, turn.number, subject, sheet);
+    place.subject = subject;
+    book.places[i] = place;
+    book
 }
 
 // An amount whose highest byte is t.
@@ -134,8 +204,11 @@ fn high(t: u8) -> Uint128 {
     }
 }
 
-// Field `a` set to t, as no step would: of the book, of place i or of transfer i.
-fn altered(mut book: Book, a: u8, i: usize, t: u8) -> Book {
+// The record's field `a` set to its t, as no step would: of the book, of place b or of transfer b.
+fn altered(mut book: Book, r: &[u8]) -> Book {
+    let a = sheet::byte(r, 1);
+    let i = sheet::byte(r, 2) as usize;
+    let t = sheet::byte(r, 3);
     if a < 5 {
         return altered_head(book, a, t);
     }
@@ -216,17 +289,17 @@ fn altered_transfer(mut r: Transfer, a: u8, t: u8) -> Transfer {
             r
         }
         10 => {
-            let load = r.amount;
-            let mantissa = load.mantissa;
+            let carried = r.amount;
+            let mantissa = carried.mantissa;
             let other = Amount { mantissa, scale: t };
             r.amount = other;
             r
         }
         _ => {
-            let load = r.amount;
+            let carried = r.amount;
             let other = Amount {
                 mantissa: high(t),
-                scale: load.scale,
+                scale: carried.scale,
             };
             r.amount = other;
             r
@@ -297,13 +370,13 @@ fn same_place(e: &[u8], at: usize, x: Place) -> bool {
 }
 
 fn same_transfer(e: &[u8], at: usize, r: Transfer) -> bool {
-    let load = r.amount;
+    let carried = r.amount;
     if 4096 < at {
         return false;
     }
     r.from == sheet::byte(e, at)
         && r.to == sheet::byte(e, at + 1)
-        && same_number(e, at + 2, load.mantissa)
+        && same_number(e, at + 2, carried.mantissa)
 }
 
 // Where what follows a record stands: behind it where it is in use, and nowhere once one differs.
@@ -355,16 +428,46 @@ fn same_book(e: &[u8], book: Book) -> bool {
     sheet::u16_at(e, 0) == book.opened && sheet::byte(e, 2) == book.pending && at == e.len()
 }
 
+// `e` holds each step's number and detail. Behind its end are zeros, and so must be the answers of steps that were not done.
+fn same_answers(e: &[u8], run: Run) -> bool {
+    let mut k: usize = 0;
+    while k < MAX_STEPS {
+        let a = run.steps[k];
+        if a.number != sheet::byte(e, 2 * k) {
+            return false;
+        }
+        if a.detail != sheet::byte(e, 2 * k + 1) {
+            return false;
+        }
+        k += 1;
+    }
+    true
+}
+
+// `e` holds the answers and the book that are expected of a run of n steps.
+fn same_run(e: &[u8], n: u8, run: Run) -> bool {
+    let end = 2 * n as usize;
+    let book = run.book;
+    run.number == 0
+        && run.count == n as u16
+        && same_answers(sheet::part(e, 0, end), run)
+        && same_book(sheet::part(e, end, e.len()), book)
+}
+
 // ---- counts
 
-fn count(counts: &mut [u64; COUNTS], row: usize, equal: bool) {
+fn add(counts: &mut [u64; COUNTS], row: usize, equal: bool, n: u64) {
     if row >= COUNTS / 2 {
         return;
     }
     let i = if equal { 2 * row } else { 2 * row + 1 };
     if i < COUNTS {
-        counts[i] = std::num::wrapping_add_u64(counts[i], 1);
+        counts[i] = std::num::wrapping_add_u64(counts[i], n);
     }
+}
+
+fn count(counts: &mut [u64; COUNTS], row: usize, equal: bool) {
+    add(counts, row, equal, 1);
 }
 
 fn unequal(at: usize) {
@@ -388,28 +491,46 @@ fn state_after(state: u8, kind: u8, number: u8) -> u8 {
     }
 }
 
-// Puts a step to the book, and gives the number that it answers.
-fn judge_step(r: &[u8], at: usize, book: Book, counts: &mut [u64; COUNTS]) -> u8 {
+// The number that a record's step answered, 0 where it is none, and the book after the record.
+struct Done {
+    number: u8,
+    book: Book,
+}
+
+// Holds a step's or a start's answer to the record's.
+fn judge_answer(r: &[u8], at: usize, a: Answer, counts: &mut [u64; COUNTS]) {
     let e = sheet::part(r, answer_at(r), 34);
-    let a = answer(book, r);
     let equal = same_answer(e, a);
     if !equal {
         unequal(at);
     }
     count(counts, sheet::byte(e, 0) as usize, equal);
-    a.number
 }
 
-// Puts one record to the book, and gives the number of a step.
-fn judge(r: &[u8], at: usize, book: Book, counts: &mut [u64; COUNTS], state: u8) -> u8 {
-    let kind = sheet::byte(r, 0);
-    if kind < ALTER {
-        return judge_step(r, at, book, counts);
+fn judge_start(r: &[u8], at: usize, counts: &mut [u64; COUNTS]) -> Done {
+    let a = steps::start_answer(body(r));
+    judge_answer(r, at, a, counts);
+    Done {
+        number: a.number,
+        book: steps::start_book(body(r)),
     }
-    if kind == ALTER {
-        count(counts, ALTERED, true);
-        return 0;
+}
+
+// A record of no kind that is known has no answer to be equal to.
+fn judge_step(r: &[u8], at: usize, book: Book, counts: &mut [u64; COUNTS]) -> Done {
+    let Entry::Step(step) = step_of(r) else {
+        unequal(at);
+        return Done { number: 0, book };
+    };
+    let turn = turn_at(book, step, body(r));
+    judge_answer(r, at, steps::answer_of(turn), counts);
+    Done {
+        number: turn.number,
+        book: stored(book, step, turn, body(r)),
     }
+}
+
+fn judge_book(r: &[u8], at: usize, book: Book, counts: &mut [u64; COUNTS], state: u8) {
     let equal = same_book(body(r), book);
     if !equal {
         unequal(at);
@@ -418,7 +539,43 @@ fn judge(r: &[u8], at: usize, book: Book, counts: &mut [u64; COUNTS], state: u8)
     if state == 2 {
         count(counts, BAD, true);
     }
-    0
+}
+
+// The list as a session, through the run. It has a book of its own.
+fn judge_run(r: &[u8], at: usize, counts: &mut [u64; COUNTS]) {
+    let n = sheet::byte(r, 3);
+    let behind = answer_at(r);
+    let e = sheet::part(r, behind + 2, sheet::u16_at(r, behind) as usize);
+    let equal = same_run(e, n, running::run(body(r)));
+    if !equal {
+        unequal(at);
+    }
+    count(counts, RUNS, equal);
+    add(counts, RUN_ANSWERS, equal, n as u64);
+}
+
+// Puts one record to the book.
+fn judge(r: &[u8], at: usize, book: Book, counts: &mut [u64; COUNTS], state: u8) -> Done {
+    let kind = sheet::byte(r, 0);
+    match kind {
+        START => judge_start(r, at, counts),
+        ALTER => {
+            count(counts, ALTERED, true);
+            Done {
+                number: 0,
+                book: altered(book, r),
+            }
+        }
+        LOOK => {
+            judge_book(r, at, book, counts, state);
+            Done { number: 0, book }
+        }
+        RUN => {
+            judge_run(r, at, counts);
+            Done { number: 0, book }
+        }
+        _ => judge_step(r, at, book, counts),
+    }
 }
 
 // Puts each record to the book as the one before left it, and answers how many bytes are left over.
@@ -432,9 +589,10 @@ fn judge_all(s: &[u8], counts: &mut [u64; COUNTS]) -> usize {
         if n == 0 {
             return s.len() - at;
         }
-        let number = judge(r, at, book, counts, state);
-        state = state_after(state, sheet::byte(r, 0), number);
-        book = after(book, r);
+        let done = judge(r, at, book, counts, state);
+        state = state_after(state, sheet::byte(r, 0), done.number);
+        let left = done.book;
+        book = left;
         at += n;
     }
     0
@@ -477,10 +635,10 @@ fn print_numbers(counts: &[u64; COUNTS]) {
 }
 
 // Room for the list. The contract says its length alone, so that no proof counts its bytes.
-fn room() -> [u8; 1048576]
-    ensures { λ r. ⌜ 1048576 ≡ length r ⌝ }
+fn room() -> [u8; 1572864]
+    ensures { λ r. ⌜ 1572864 ≡ length r ⌝ }
 {
-    [0; 1048576]
+    [0; 1572864]
 }
 
 fn main() {
@@ -495,6 +653,10 @@ fn main() {
     number(count_at(&counts, 2 * ALTERED));
     put(b"\naltered books that met 28: ");
     number(count_at(&counts, 2 * BAD));
+    put(b"\nlists through the run");
+    print_row(&counts, RUNS);
+    put(b"answers in them: ");
+    number(count_at(&counts, 2 * RUN_ANSWERS));
     put(b"\nbytes ");
     number(n as u64);
     put(b", left over ");

@@ -1,10 +1,10 @@
-// The book behind C: a book is lent and one step is done in it. It is copied for the survey alone: the records that the step looks at
-// are read and stored where they lie. A refused step stores what it read, and so leaves the book as it was.
+// The book behind C: a book is lent and one step is done in it. Each entry is one call of `lent`, and its proof is tools/hand_on's.
 ghost use mathlib.Core.Path.{_≡_};
 ghost use Rattle.book.specs.Refusals.{answerOf};
 ghost use Rattle.book.specs.Steps.{Open, Act, Begin, Finish, answer, next, startAnswer, startBook};
 use book::Book;
 use registry::error::Answer;
+use steps::Step;
 
 #[repr(C)]
 pub struct Started {
@@ -36,13 +36,7 @@ pub extern "C" fn credits_book_open(book: &mut Book, place: u8, sheet: &[u8]) ->
     ensures { λ r. ⌜ (r ≡ answerOf (answer (now (book .entry)) (Open place (now (sheet .entry)))))
         × (now (book .exit) ≡ next (now (book .entry)) (Open place (now (sheet .entry)))) ⌝ }
 {
-    let survey = steps::survey_of(*book);
-    let i = (place % 16) as usize;
-    let x = book.places[i];
-    let step = steps::open_step(survey, x, place, sheet);
-    book.places[i] = step.place;
-    book.opened = step.opened;
-    step.answer
+    lent::step_in(book, Step::Open(place), sheet)
 }
 
 #[no_mangle]
@@ -55,12 +49,7 @@ pub extern "C" fn credits_book_act(
     ensures { λ r. ⌜ (r ≡ answerOf (answer (now (book .entry)) (Act place operation (now (sheet .entry)))))
         × (now (book .exit) ≡ next (now (book .entry)) (Act place operation (now (sheet .entry)))) ⌝ }
 {
-    let survey = steps::survey_of(*book);
-    let i = (place % 16) as usize;
-    let x = book.places[i];
-    let step = steps::act_step(survey, x, place, operation, sheet);
-    book.places[i] = step.place;
-    step.answer
+    lent::step_in(book, Step::Act(place, operation), sheet)
 }
 
 #[no_mangle]
@@ -74,18 +63,7 @@ pub extern "C" fn credits_book_begin(
     ensures { λ r. ⌜ (r ≡ answerOf (answer (now (book .entry)) (Begin from to transfer (now (sheet .entry)))))
         × (now (book .exit) ≡ next (now (book .entry)) (Begin from to transfer (now (sheet .entry)))) ⌝ }
 {
-    let survey = steps::survey_of(*book);
-    let i = (from % 16) as usize;
-    let source = book.places[i];
-    let j = (to % 16) as usize;
-    let aim = book.places[j];
-    let k = (transfer % 8) as usize;
-    let load = book.transfers[k];
-    let step = steps::begin_step(survey, source, aim, load, from, to, transfer, sheet);
-    book.places[i] = step.place;
-    book.transfers[k] = step.load;
-    book.pending = step.pending;
-    step.answer
+    lent::step_in(book, Step::Begin(from, to, transfer), sheet)
 }
 
 #[no_mangle]
@@ -93,14 +71,5 @@ pub extern "C" fn credits_book_finish(book: &mut Book, transfer: u8) -> Answer
     ensures { λ r. ⌜ (r ≡ answerOf (answer (now (book .entry)) (Finish transfer)))
         × (now (book .exit) ≡ next (now (book .entry)) (Finish transfer)) ⌝ }
 {
-    let survey = steps::survey_of(*book);
-    let k = (transfer % 8) as usize;
-    let load = book.transfers[k];
-    let i = (load.to % 16) as usize;
-    let x = book.places[i];
-    let step = steps::finish_step(survey, x, load, transfer);
-    book.places[i] = step.place;
-    book.transfers[k] = step.load;
-    book.pending = step.pending;
-    step.answer
+    lent::free_in(book, Step::Finish(transfer))
 }

@@ -1,3 +1,4 @@
 -- The laws of the definitions, which the proofs cite.
 pub mod Readers
 pub mod Tests
+pub mod Words

@@ -22,7 +22,7 @@ use Rattle.registry.specs.declared.error.Outcome.the-variants.{Refused}
 use Rattle.registry.specs.declared.error.Reading.the-variants.{Given, Failed}
 
 -- what is not a text is an amount or a value that is no string, and a reader that answers both alike answers so
-not-text : {A : Type 0} (f : Field → A) (x : A) (kind : ℕ) (body : List ℕ) → x ≡ f (whole (amountAt body 0)) → x ≡ f other → kind ≢ 1 → x ≡ f (fieldOfKind kind body)
+pub not-text : {A : Type 0} (f : Field → A) (x : A) (kind : ℕ) (body : List ℕ) → x ≡ f (whole (amountAt body 0)) → x ≡ f other → kind ≢ 1 → x ≡ f (fieldOfKind kind body)
 not-text f x kind body w o h = rw (ne-eqb kind 1 h) (go (eqb kind 3))
   where
     go : (b : Bool) → x ≡ f (cond b (whole (amountAt body 0)) other)

@@ -13,6 +13,7 @@ ghost use Rattle.registry.specs.Readers.{textIn, textOf, bytesOf, marked
 ghost use Rattle.registry.specs.Tests.{stateThere, stateAbsent, aboveZero, unlessLess, heldBy, upTo, asking, taking, firstOf, creates, born, in-amount, _then_};
 ghost use Rattle.registry.specs.Call.{stateSound, inputSound, profileOf, operationOf, called};
 
+pub mod asked;
 pub mod error;
 
 use amount::Amount;
@@ -285,7 +286,7 @@ pub fn require_up_to(amount: Amount, maximum: Amount) -> Outcome
     unless_less(maximum.cmp(amount), ProfileError::OverMaximum)
 }
 
-// In asked, 14, 15, against what is held: a state's amount here, a place's balance in the book.
+// In asked, 14, 15, against what is held.
 pub fn require_asked(input: &[u8], available: Amount, asked: u8) -> Outcome
     ensures { λ r. ⌜ r ≡ asking available asked (field (now (input .entry)) asked) ⌝ }
 {
@@ -296,17 +297,6 @@ pub fn require_asked(input: &[u8], available: Amount, asked: u8) -> Outcome
     require_positive_available(requested, available)
 }
 
-// The same, of what was read as held.
-fn require_held(input: &[u8], held: Reading, asked: u8) -> Outcome
-    ensures { λ r. ⌜ r ≡ taking held (amountIn asked (field (now (input .entry)) asked)) ⌝ }
-{
-    let available = match held {
-        Reading::Given(a) => a,
-        Reading::Failed(e) => return Outcome::Refused(e),
-    };
-    require_asked(input, available, asked)
-}
-
 // What all that take from an amount test. A profile reads what is held.
 pub fn check_taking(state: &[u8], input: &[u8], held: Reading, asked: u8) -> Outcome
     ensures { λ r. ⌜ r ≡ (stateThere (not (eqb (length (now (state .entry))) 0)) then taking held (amountIn asked (field (now (input .entry)) asked))) ⌝ }
@@ -314,7 +304,11 @@ pub fn check_taking(state: &[u8], input: &[u8], held: Reading, asked: u8) -> Out
     if let Outcome::Refused(e) = require_current(state) {
         return Outcome::Refused(e);
     }
-    require_held(input, held, asked)
+    let available = match held {
+        Reading::Given(a) => a,
+        Reading::Failed(e) => return Outcome::Refused(e),
+    };
+    require_asked(input, available, asked)
 }
 
 // The same with an input text directly after born.
@@ -327,7 +321,11 @@ pub fn check_taking_with(state: &[u8], input: &[u8], name: u8, held: Reading, as
     if let Outcome::Refused(e) = input_str(input, name) {
         return Outcome::Refused(e);
     }
-    require_held(input, held, asked)
+    let available = match held {
+        Reading::Given(a) => a,
+        Reading::Failed(e) => return Outcome::Refused(e),
+    };
+    require_asked(input, available, asked)
 }
 
 // Create of a stack or a balance: subject, unit, and the amount of that name.

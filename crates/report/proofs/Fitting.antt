@@ -3,7 +3,7 @@ use mathlib.Core.Path.{_≡_, refl, ap, _∙_}
 use mathlib.Core.Bool.{Bool, true, false, cond}
 use mathlib.Core.List.{List, _++_}
 use Prim.{absurd}
-use Prim.Native.Nat.{ℕ, _+_, _-_, _≤_, _<_}
+use Prim.Native.Nat.{ℕ, _≤_, _<_}
 use native.Mathlib.Nat.{zero-add}
 use native.Mathlib.Omega.{arith}
 use lib.Dec.{leb}
@@ -12,12 +12,12 @@ use lib.Seq.{sets-eq, take-append-seam}
 use borrow.Author.Tests.{le-leb, lt-leb, leb-true, eq-eqb, ne-eqb}
 use Rattle.writer.specs.Encode.{putInto}
 use Rattle.book.specs.Book.{wellFormed}
-use Rattle.session.specs.Session.{good, answersOf, bookOf, filled, goodRun, badRun, runOf}
+use Rattle.session.specs.Session.{good, answersOf, bookOf, runOf}
 use Rattle.session.specs.declared.StepAnswer.{StepAnswer}
 use Rattle.session.specs.declared.Run.{Run}
 use Rattle.session.proofs.Walking.{good-count}
-use Rattle.session.proofs.Turns.{count-answers}
-use Rattle.session.proofs.Theorems.{book-fits}
+use Rattle.session.proofs.Standing.{count-answers}
+use Rattle.session.proofs.Theorems.{good-run-is, bad-does-nothing, book-fits}
 use Rattle.report.specs.Listing.{stepLines, placeLines, lastLine, badText, listingText, listingOf, lengthIn, runText}
 use Rattle.report.specs.Writing.{Wrote}
 
@@ -34,17 +34,16 @@ module _ (r : Run) where
 
 module _ (s : List ℕ) where
   text-case : (t : Bool) → good s ≡ t → runText (runOf s) ≡ listingOf s
-  unfolding runText listingOf runOf goodRun badRun filled
-  text-case true h = rw h (ap (λ (l : List StepAnswer). listingText l (bookOf s)) (take-append-seam (answersOf s) _))
-  text-case false h = rw h
+  unfolding runText listingOf
+  text-case true h = rw (good-run-is s h, h) (ap (λ (l : List StepAnswer). listingText l (bookOf s)) (take-append-seam (answersOf s) _))
+  text-case false h = rw (bad-does-nothing s h, h)
 
   pub run-text : runText (runOf s) ≡ listingOf s
   run-text = text-case (good s) refl
 
   fits-case : (t : Bool) → good s ≡ t → runOf s .number ≡ 0 → (runOf s .count ≤ 255) × (wellFormed (runOf s .book) ≡ true)
-  unfolding runOf goodRun badRun
-  fits-case true h n = rw h (omega (arith, count-answers s, good-count s h), book-fits s h .0)
-  fits-case false h n = let z : _≡_ {A = ℕ} 2 0 = rw h at n in absurd (omega arith)
+  fits-case true h n = rw (good-run-is s h) (omega (arith, count-answers s h, good-count s h .1), book-fits s h .0)
+  fits-case false h n = let z : _≡_ {A = ℕ} 2 0 = rw (bad-does-nothing s h) at n in absurd (omega arith)
 
   -- at most 255 steps were done, on a book that passes test 28
   pub run-fits : runOf s .number ≡ 0 → (runOf s .count ≤ 255) × (wellFormed (runOf s .book) ≡ true)

@@ -13,9 +13,9 @@ use Rattle.registry.specs.Readers.{textIn, bytesOf, marked, parsed, amountBy, a
 use Rattle.registry.specs.Tests.{stateAbsent, stateThere, aboveZero, heldBy}
 use Rattle.profiles.specs.Balance.{balanceRules}
 use Rattle.book.specs.Sets.{bit, withBit, entry, sum, every}
-use Rattle.book.specs.Book.{nameBytes, nameOf, blankName, blankPlace, blankTransfer, blankBook, placeRecord, transferRecord, placeAt, transferAt, balances, loads, total, nameOk, wellFormed, openPlace, setCredits, setTransfer}
+use Rattle.book.specs.Book.{nameBytes, nameOf, blankName, blankPlace, blankTransfer, blankBook, placeRecord, transferRecord, placeAt, transferAt, balances, creditsUnderWay, total, nameOk, wellFormed, openPlace, setRecord, setTransfer}
 use Rattle.book.specs.Steps.{creditsIn, bytesIn, testsOpen, testsBegin, testsFinish, seen, answer, next, startAnswer, startBook}
-use Rattle.session.specs.Session.{lineAt, stepOf, stepsFrom, stepsOf, bookOf}
+use Rattle.session.specs.Session.{lineAt, stepOf, standAfter, bookOf}
 use Rattle.session.proofs.Worked.{session, worked-good, worked-answers}
 use Rattle.report.specs.Listing.{stepLine, stepLines, placeLine, placeLines, members, countsText, lastLine, listingText, listingOf}
 
@@ -40,11 +40,11 @@ last =
     104 ∷ 101 ∷ 108 ∷ 100 ∷ 32 ∷ 50 ∷ 32 ∷ 119 ∷ 97 ∷ 121 ∷ 32 ∷ 48 ∷ 32 ∷ 116 ∷ 111 ∷ 116 ∷ 97 ∷ 108 ∷ 32 ∷ 53 ∷ 10 ∷ []
 
 worked-places : placeLines (bookOf session) 16 ≡ places
-unfolding val limit halves orderOf allDigits digitsAfter decimal amountIf readOf compareOf zeros allTo sumTo prior entryAt entriesFrom lookup soundAs field textIn bytesOf marked parsed amountBy amountOf stateAbsent stateThere aboveZero heldBy balanceRules bit withBit entry sum every nameBytes nameOf blankName blankPlace blankTransfer blankBook placeRecord transferRecord placeAt transferAt balances loads total nameOk wellFormed openPlace setCredits setTransfer creditsIn bytesIn testsOpen testsBegin testsFinish seen answer next startAnswer startBook lineAt stepOf stepsFrom stepsOf bookOf placeLine placeLines wholeText widthOf widthUpTo lastDigits strip decimalText canonicalText
+unfolding val limit halves orderOf allDigits digitsAfter decimal amountIf readOf compareOf zeros allTo sumTo prior entryAt entriesFrom lookup soundAs field textIn bytesOf marked parsed amountBy amountOf stateAbsent stateThere aboveZero heldBy balanceRules bit withBit entry sum every nameBytes nameOf blankName blankPlace blankTransfer blankBook placeRecord transferRecord placeAt transferAt balances creditsUnderWay total nameOk wellFormed openPlace setRecord setTransfer creditsIn bytesIn testsOpen testsBegin testsFinish seen answer next startAnswer startBook lineAt stepOf standAfter bookOf placeLine placeLines wholeText widthOf widthUpTo lastDigits strip decimalText canonicalText
 worked-places = refl
 
 worked-last : lastLine (bookOf session) ≡ last
-unfolding val limit halves orderOf allDigits digitsAfter decimal amountIf readOf compareOf zeros allTo sumTo prior entryAt entriesFrom lookup soundAs field textIn bytesOf marked parsed amountBy amountOf stateAbsent stateThere aboveZero heldBy balanceRules bit withBit entry sum every nameBytes nameOf blankName blankPlace blankTransfer blankBook placeRecord transferRecord placeAt transferAt balances loads total nameOk wellFormed openPlace setCredits setTransfer creditsIn bytesIn testsOpen testsBegin testsFinish seen answer next startAnswer startBook lineAt stepOf stepsFrom stepsOf bookOf members countsText lastLine wholeText widthOf widthUpTo lastDigits strip decimalText canonicalText
+unfolding val limit halves orderOf allDigits digitsAfter decimal amountIf readOf compareOf zeros allTo sumTo prior entryAt entriesFrom lookup soundAs field textIn bytesOf marked parsed amountBy amountOf stateAbsent stateThere aboveZero heldBy balanceRules bit withBit entry sum every nameBytes nameOf blankName blankPlace blankTransfer blankBook placeRecord transferRecord placeAt transferAt balances creditsUnderWay total nameOk wellFormed openPlace setRecord setTransfer creditsIn bytesIn testsOpen testsBegin testsFinish seen answer next startAnswer startBook lineAt stepOf standAfter bookOf members countsText lastLine wholeText widthOf widthUpTo lastDigits strip decimalText canonicalText
 worked-last = refl
 
 pub worked-listing : listingOf session ≡ steps ++ places ++ last

@@ -10,9 +10,10 @@ ghost use Rattle.report.specs.Listing.{stepLine, stepLines, placeLine, p
 ghost use Rattle.report.specs.Writing.{Wrote};
 use crate::text;
 use amount::Amount;
-use amount::Checked;
 use book::Book;
+use book::PLACES;
 use book::Place;
+use session::MAX_STEPS;
 use session::Run;
 use session::StepAnswer;
 
@@ -30,7 +31,7 @@ fn put_step(out: &mut [u8], at: usize, k: u16, a: StepAnswer) -> usize
 }
 
 // The first `count` answers, from the buffer's start on.
-fn put_steps(out: &mut [u8], answers: [StepAnswer; 255], count: u16) -> usize
+fn put_steps(out: &mut [u8], answers: [StepAnswer; MAX_STEPS], count: u16) -> usize
     requires { ⌜ count ≤ 255 ⌝ }
     ensures { λ r. ⌜ (r ≤ 3060) × Wrote (now (out .entry)) 0 (stepLines 1 (take count answers)) (now (out .exit)) r ⌝ }
 {
@@ -68,7 +69,7 @@ fn put_places(out: &mut [u8], at: usize, book: Book) -> usize
     let opened = book.opened;
     let mut end = at;
     let mut i: usize = 0;
-    while i < 16 {
+    while i < PLACES {
         let x = book.places[i];
         end = put_place(out, end, opened, i as u8, x);
         i += 1;
@@ -105,10 +106,7 @@ fn put_last(out: &mut [u8], at: usize, book: Book) -> usize
     requires { ⌜ (at ≤ 3860) × (wellFormed book ≡ true) ⌝ }
     ensures { λ r. ⌜ (r ≤ at + 63) × Wrote (now (out .entry)) at (lastLine book) (now (out .exit)) r ⌝ }
 {
-    // the total fits
-    let Checked::Some(mantissa) = audit::sound_total(book) else {
-        return at;
-    };
+    let mantissa = audit::book_total(book);
     let counts = put_counts(out, at, book.opened, book.pending);
     let word = text::put(out, counts, b" total ");
     let total = text::put_amount(out, word, Amount { mantissa, scale: 0 });

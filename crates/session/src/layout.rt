@@ -1,15 +1,25 @@
 // The layout of a session, judged on any bytes.
 ghost use mathlib.Core.Path.{_≡_};
 ghost use mathlib.Core.Bool.{_&&_};
+ghost use mathlib.Core.List.{List};
 ghost use lib.Dec.{eqb};
-ghost use Prim.Native.Nat.{_<_};
-ghost use Rattle.session.specs.Session.{lineAt, bodyOf, startFits, stepFits, lineFits, sound};
+ghost use Prim.Native.Nat.{ℕ, _+_, _*_, _<_};
+ghost use Rattle.session.specs.Session.{lineAt, bodyOf, startFits, stepFits, lineFits, sound, stepOf};
+ghost use Rattle.session.specs.Entries.{entryStep};
 use super::Line;
+use steps::Step;
 
 // The most bytes of a session, and the most entries.
 const MAX_BYTES: usize = 16384;
 
 const MAX_ENTRIES: usize = 256;
+
+// Two bytes as a number, the low one first.
+fn word(lo: u8, hi: u8) -> u16
+    ensures { λ r. ⌜ r ≡ lo + 256 * hi ⌝ }
+{
+    lo as u16 + 256 * hi as u16
+}
 
 // Entry k of the table.
 pub fn line_at(s: &[u8], k: usize) -> Line
@@ -17,6 +27,17 @@ pub fn line_at(s: &[u8], k: usize) -> Line
     ensures { λ r. ⌜ r ≡ lineAt (now (s .entry)) k ⌝ }
 {
     let p = 2 + 8 * k;
+    // one test where the whole entry is there
+    if p + 8 <= s.len() {
+        return Line {
+            kind: s[p],
+            a: s[p + 1],
+            b: s[p + 2],
+            t: s[p + 3],
+            offset: word(s[p + 4], s[p + 5]),
+            len: word(s[p + 6], s[p + 7]),
+        };
+    }
     Line {
         kind: sheet::byte(s, p),
         a: sheet::byte(s, p + 1),
@@ -32,6 +53,25 @@ pub fn body(s: &[u8], l: Line) -> &[u8]
     ensures { λ r. ⌜ now r ≡ bodyOf (now (s .entry)) l ⌝ }
 {
     sheet::part(s, l.offset as usize, l.len as usize)
+}
+
+// The step of an entry, without its body; another kind is none.
+pub enum Entry {
+    Step(Step),
+    NoStep,
+}
+
+pub fn step_of(l: Line) -> Entry
+    ensures { λ r. ⌜ ((i : List ℕ) → entryStep r i ≡ stepOf l i) ⌝ }
+{
+    let kind = l.kind;
+    match kind {
+        1 => Entry::Step(Step::Open(l.a)),
+        2 => Entry::Step(Step::Act(l.a, l.b)),
+        3 => Entry::Step(Step::Begin(l.a, l.b, l.t)),
+        4 => Entry::Step(Step::Finish(l.t)),
+        _ => Entry::NoStep,
+    }
 }
 
 // Entry one is kind 0 and uses no field.

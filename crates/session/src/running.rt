@@ -1,27 +1,19 @@
 // The run of a session: its entries' steps in their order, from its start.
 ghost use mathlib.Core.Path.{_≡_};
 ghost use mathlib.Core.Bool.{true};
-ghost use Rattle.book.specs.Refusals.{answerOf};
-ghost use Rattle.session.specs.Session.{unitOf, brief, good, badRun, goodRun, runOf};
+ghost use Prim.Native.Nat.{_+_, _≤_};
+ghost use Rattle.session.specs.Session.{count, unitOf, good, badRun, runFrom, runOf};
+ghost use Rattle.audit.specs.Totals.{totalOf};
+use super::MAX_STEPS;
 use super::Run;
 use super::StepAnswer;
 use super::layout;
-use super::turn;
-use super::turn::Touched;
+use super::layout::Entry;
 use amount::Uint128;
-use book::error;
+use audit::Total;
+use book::Book;
 use book::error::BookOutcome;
-
-// The number and detail of an answer.
-fn step_answer(o: BookOutcome) -> StepAnswer
-    ensures { λ r. ⌜ r ≡ brief (answerOf o) ⌝ }
-{
-    let a = error::answer_of(o);
-    StepAnswer {
-        number: a.number,
-        detail: a.detail,
-    }
-}
+use steps::View;
 
 // The body of entry one.
 fn unit(s: &[u8]) -> &[u8]
@@ -55,46 +47,77 @@ fn bad_run() -> Run
     Run {
         number: 2,
         count: 0,
-        steps: [NO_ANSWER; 255],
+        steps: [NO_ANSWER; MAX_STEPS],
         book: steps::start_book(b""),
     }
 }
 
-// Every step, on the book as the one before left it. Step j + 1 is entry j + 1 of a table counted from 0.
-// No step of a run meets 28, and `total` is the book's: a step is decided and done by the records that it looks at.
-fn do_steps(s: &[u8]) -> Run
-    requires { ⌜ good (now s) ≡ true ⌝ }
-    ensures { λ r. ⌜ r ≡ goodRun (now (s .entry)) ⌝ }
+// n steps from entry `first` on, each on the book as the one before left it. A step is decided and done by what it looks at, word by word;
+// `total` is the given book's, and moves with it.
+fn do_steps(s: &[u8], given: Book, first: u16, n: u16, total: Total) -> Run
+    requires { ⌜ (good (now s) ≡ true) × (1 ≤ first) × (first + n ≤ count (now s)) × (total ≡ totalOf given) ⌝ }
+    ensures { λ r. ⌜ r ≡ runFrom (now (s .entry)) (record { book = given }) first n ⌝ }
 {
-    let n = sheet::u16_at(s, 0) - 1;
-    let mut book = steps::start_book(unit(s));
-    let mut total = Uint128::ZERO;
-    let mut answers = [NO_ANSWER; 255];
+    let mut book = given;
+    let mut sum = total.sum;
+    let mut answers = [NO_ANSWER; MAX_STEPS];
     let mut j: usize = 0;
     while j < n as usize {
-        let l = layout::line_at(s, j + 1);
+        let l = layout::line_at(s, first as usize + j);
+        // never: every later entry of a good session is a step. A second call of `bad_run` would cost 1.8 KB of stack
+        let Entry::Step(step) = layout::step_of(l) else {
+            return Run {
+                number: 2,
+                count: 0,
+                steps: answers,
+                book,
+            };
+        };
         let body = layout::body(s, l);
-        let k = (l.t % 8) as usize;
-        let load = book.transfers[k];
-        let i = turn::place_of(l, load) as usize;
-        let place = book.places[i];
-        let aim = book.places[(l.b % 16) as usize];
-        let was = Touched {
-            place,
-            load,
+        let k = steps::transfer_of(step) as usize;
+        let to = book.transfers[k].to;
+        let i = steps::place_of(step, to) as usize;
+        let g = steps::destination_of(step) as usize;
+        let destination = book.places[g];
+        let unit = book.unit;
+        let was = View {
+            held: Uint128 {
+                hi: book.places[i].balance.mantissa.hi,
+                lo: book.places[i].balance.mantissa.lo,
+            },
+            carried: Uint128 {
+                hi: book.transfers[k].amount.mantissa.hi,
+                lo: book.transfers[k].amount.mantissa.lo,
+            },
+            total: sum,
             opened: book.opened,
             pending: book.pending,
+            from: book.transfers[k].from,
+            to,
+            named: steps::length_of(destination.subject),
+            sound: total.sound,
         };
-        let o = turn::outcome(l, body, book.unit, was, aim.subject, total);
-        let done = turn::after(o, l, body, was);
-        let place = done.place;
+        let turn = steps::take_turn(step, was, unit, body);
+        let left = turn.left;
+        book.places[i].balance.mantissa.hi = left.held.hi;
+        book.places[i].balance.mantissa.lo = left.held.lo;
+        book.transfers[k].from = left.from;
+        book.transfers[k].to = left.to;
+        book.transfers[k].amount.mantissa.hi = left.carried.hi;
+        book.transfers[k].amount.mantissa.lo = left.carried.lo;
+        book.opened = left.opened;
+        book.pending = left.pending;
+        let mut place = book.places[i];
+        let subject = place.subject;
+        let subject = steps::subject_after(step, turn.number, subject, body);
+        place.subject = subject;
         book.places[i] = place;
-        let load = done.load;
-        book.transfers[k] = load;
-        book.opened = done.opened;
-        book.pending = done.pending;
-        total = turn::total_after(o, total, l, body);
-        answers[j] = step_answer(o);
+        let moved = left.total;
+        sum = moved;
+        answers[j] = StepAnswer {
+            number: turn.number,
+            detail: turn.detail,
+        };
         j += 1;
     }
     Run {
@@ -105,12 +128,17 @@ fn do_steps(s: &[u8]) -> Run
     }
 }
 
-// The run, as a call.
+// The run, as a call. A fresh book has a total of 0, and passes 28.
 pub fn run(s: &[u8]) -> Run
     ensures { λ r. ⌜ r ≡ runOf (now (s .entry)) ⌝ }
 {
-    if is_good(s) {
-        return do_steps(s);
+    if !is_good(s) {
+        return bad_run();
     }
-    bad_run()
+    let n = sheet::u16_at(s, 0) - 1;
+    let total = Total {
+        sound: true,
+        sum: Uint128::ZERO,
+    };
+    do_steps(s, steps::start_book(unit(s)), 1, n, total)
 }

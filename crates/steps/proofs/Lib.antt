@@ -1,7 +1,8 @@
 -- The laws that the code of the steps cites.
 pub mod Texts
 pub mod Same
-pub mod Carried
 pub mod Tested
-pub mod Sending
-pub mod Stepped
+pub mod Looks
+pub mod Turned
+pub mod Checks
+pub mod Stored

@@ -46,9 +46,6 @@ byte-requires c κs = search needs
 state-after-requires : tie.Need-state-after-requires Inv-loop μ-loop
 state-after-requires c κs = search needs
 
-after-requires : tie.Need-after-requires Inv-loop μ-loop
-after-requires c κs = search needs
-
 add-at : tie.Need-add-at Inv-loop μ-loop
 add-at c = search needs
 
@@ -79,7 +76,6 @@ judge-all-spec =
     judge-requires
     byte-requires
     state-after-requires
-    after-requires
     add-at
     loop-less
     loop-again

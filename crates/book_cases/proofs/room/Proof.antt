@@ -8,7 +8,7 @@ counted : (n byte : ℕ) → n ≡ length (replicate n byte)
 counted n byte = sym (length-replicate n byte)
 
 returns : tie.Need-returns
-returns c = counted 1048576 0
+returns c = counted 1572864 0
 
 pub room-spec : {M : Type 1} → statement M
 room-spec = tie.close (tie.spec returns)

@@ -1,3 +1,5 @@
+use mathlib.Core.Path.{_∙_}
+use Rattle.registry.proofs.Tests.{asking-is}
 use borrow.Author.Needs.{needs}
 use Rattle.registry.proofs.check_taking.Statement.{statement}
 use Rattle.registry.proofs.check_taking.Tie as tie
@@ -14,11 +16,20 @@ returns c = rw (← c .before .before .before .require-current .ensures, c .befo
 enum-told : tie.Need-enum-told
 enum-told c = search needs
 
-require-held-requires : tie.Need-require-held-requires
-require-held-requires c κs = search needs
+enum-known-held : tie.Need-enum-known-held
+enum-known-held c = search needs
+
+enum-known-held-2 : tie.Need-enum-known-held-2
+enum-known-held-2 c = search needs
 
 returns-2 : tie.Need-returns-2
-returns-2 c = rw (← c .before .before .before .require-current .ensures, c .before .enum-told .given .1, ← c .require-held .ensures)
+returns-2 c = rw (← c .before .before .before .before .before .require-current .ensures, c .before .before .before .enum-told .given .1, c .before .held2 .given .1)
+
+require-asked-requires : tie.Need-require-asked-requires
+require-asked-requires c κs = search needs
+
+returns-3 : tie.Need-returns-3
+returns-3 c = rw (← c .before .before .before .before .before .before .require-current .ensures, c .before .before .before .before .enum-told .given .1, c .before .before .held .given .1) (c .require-asked .ensures ∙ asking-is _ _ _)
 
 pub check-taking-spec : {M : Type 1} → statement M
 check-taking-spec =
@@ -28,5 +39,8 @@ check-taking-spec =
     enum-known-e
     returns
     enum-told
-    require-held-requires
-    returns-2)
+    enum-known-held
+    enum-known-held-2
+    returns-2
+    require-asked-requires
+    returns-3)

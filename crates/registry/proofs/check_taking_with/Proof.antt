@@ -1,3 +1,5 @@
+use mathlib.Core.Path.{_∙_}
+use Rattle.registry.proofs.Tests.{asking-is}
 use borrow.Author.Needs.{needs}
 use Rattle.registry.proofs.check_taking_with.Statement.{statement}
 use Rattle.registry.proofs.check_taking_with.Tie as tie
@@ -26,11 +28,20 @@ returns-2 c = rw (← c .before .before .before .before .before .before .require
 enum-told-2 : tie.Need-enum-told-2
 enum-told-2 c = search needs
 
-require-held-requires : tie.Need-require-held-requires
-require-held-requires c κs = search needs
+enum-known-held : tie.Need-enum-known-held
+enum-known-held c = search needs
+
+enum-known-held-2 : tie.Need-enum-known-held-2
+enum-known-held-2 c = search needs
 
 returns-3 : tie.Need-returns-3
-returns-3 c = rw (← c .before .before .before .before .before .before .require-current .ensures, c .before .before .before .before .enum-told .given .1, ← c .before .before .before .input-str .ensures, c .before .enum-told2 .given .1, ← c .require-held .ensures)
+returns-3 c = rw (← c .before .before .before .before .before .before .before .before .require-current .ensures, c .before .before .before .before .before .before .enum-told .given .1, ← c .before .before .before .before .before .input-str .ensures, c .before .before .before .enum-told2 .given .1, c .before .held2 .given .1)
+
+require-asked-requires : tie.Need-require-asked-requires
+require-asked-requires c κs = search needs
+
+returns-4 : tie.Need-returns-4
+returns-4 c = rw (← c .before .before .before .before .before .before .before .before .before .require-current .ensures, c .before .before .before .before .before .before .before .enum-told .given .1, ← c .before .before .before .before .before .before .input-str .ensures, c .before .before .before .before .enum-told2 .given .1, c .before .before .held .given .1) (c .require-asked .ensures ∙ asking-is _ _ _)
 
 pub check-taking-with-spec : {M : Type 1} → statement M
 check-taking-with-spec =
@@ -44,5 +55,8 @@ check-taking-with-spec =
     enum-known-e-2
     returns-2
     enum-told-2
-    require-held-requires
-    returns-3)
+    enum-known-held
+    enum-known-held-2
+    returns-3
+    require-asked-requires
+    returns-4)

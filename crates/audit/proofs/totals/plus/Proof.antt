@@ -1,27 +1,26 @@
-use Rattle.amount.specs.Numbers.{val}
-use Rattle.audit.specs.Totals.{more}
-use Rattle.amount.specs.declared.uint128.Checked.{Checked}
-use mathlib.Core.Path.{sym, ap, _∙_}
+use Rattle.audit.proofs.Sums.{added}
+use mathlib.Core.Path.{refl}
 use borrow.Author.Needs.{needs}
 use Rattle.audit.proofs.totals.plus.Statement.{statement}
 use Rattle.audit.proofs.totals.plus.Tie as tie
 
-enum-known-sum : tie.Need-enum-known-sum
-enum-known-sum c = search needs
-
-enum-told : tie.Need-enum-told
-enum-told c = search needs
-
 returns : tie.Need-returns
-returns c = search needs
-
-checked-add-requires : tie.Need-checked-add-requires
-checked-add-requires c κs = search needs
-
-returns-2 : tie.Need-returns-2
-returns-2 c =
-    let n = val (c .before .before .before .before .args .n) in
-    c .checked-add .ensures ∙ ap (λ (s : Checked). more s n) (sym (c .before .before .sum .given .1))
+returns c =
+    let low = c .before .carry2 in
+    let high = c .before .before .before .carry in
+    let sums = c .before .before .before .before in
+    added _ _ _ _ _ (low .ensures .0) (high .ensures .0) refl refl
+    (high .ensures .1 _ (search needs) (sums .before .wrapping-add-u64 .ensures))
+    (low .ensures .1 _ (search needs) (sums .wrapping-add-u642 .ensures))
 
 pub plus-spec : {M : Type 1} → statement M
-plus-spec = tie.close (tie.spec enum-known-sum enum-told returns checked-add-requires returns-2)
+plus-spec =
+    tie.close
+    (tie.spec
+    (λ c κs. search needs)
+    (λ c κs. search needs)
+    (λ c κs. search needs)
+    (λ c. search needs)
+    (λ c κs. search needs)
+    (λ c. search needs)
+    returns)

@@ -1,29 +1,14 @@
 use borrow.Author.Needs.{needs}
-use Prim.{absurd}
-use mathlib.Core.Path.{sym, ap, _∙_}
-use mathlib.Core.Bool.{false≢true}
+use mathlib.Core.Path.{ap}
 use Rattle.amount.specs.Canonical.{canonicalText}
 use Rattle.amount.specs.declared.uint128.Uint128.{Uint128}
-use Rattle.amount.proofs.Halves.{checked-is}
-use Rattle.audit.proofs.Sound.{whole, sound-not}
 use Rattle.report.specs.Listing.{lastLine}
 use Rattle.report.proofs.Putting.{_then_, as-text}
 use Rattle.report.proofs.lines.put_last.Statement.{statement}
 use Rattle.report.proofs.lines.put_last.Tie as tie
 
-sound-total-requires : tie.Need-sound-total-requires
-sound-total-requires c κs = search needs
-
-enum-known-mantissa : tie.Need-enum-known-mantissa
-enum-known-mantissa c = search needs
-
-enum-told : tie.Need-enum-told
-enum-told c = search needs
-
-returns : tie.Need-returns
-returns c =
-    let sum = c .before .before in
-    absurd (false≢true (sym (sound-not _ _ (sum .sound-total .ensures) (c .enum-told .given .1)) ∙ sum .before .before .pre .1))
+book-total-requires : tie.Need-book-total-requires
+book-total-requires c κs = search needs
 
 put-counts-requires : tie.Need-put-counts-requires
 put-counts-requires c κs = search needs
@@ -46,15 +31,15 @@ put-requires-2 c κs = search needs
 same-length : tie.Need-same-length
 same-length c = search needs
 
-returns-2 : tie.Need-returns-2
+returns : tie.Need-returns
 unfolding lastLine
-returns-2 c =
+returns c =
     let end = c .before .before in
     let total = end .before .before .before .before .before in
     let word = total .before .before .before .before in
     let counts = word .before .before .before .before .before in
-    let told = counts .before .before .before in
-    let is = checked-is _ _ (sym (told .mantissa .given .1) ∙ told .before .before .sound-total .ensures ∙ whole _ (told .before .before .before .before .pre .1)) .1 in (
+    let counted = counts .before .before in
+    let is = counted .book-total .ensures (counted .before .before .pre .1) in (
       search needs,
       counts .put-counts .ensures .1
           then word .put .ensures .1
@@ -66,10 +51,7 @@ pub put-last-spec : {M : Type 1} → statement M
 put-last-spec =
     tie.close
     (tie.spec
-    sound-total-requires
-    enum-known-mantissa
-    enum-told
-    returns
+    book-total-requires
     put-counts-requires
     slice-aggregate-put
     put-requires
@@ -77,4 +59,4 @@ put-last-spec =
     slice-aggregate-put-2
     put-requires-2
     same-length
-    returns-2)
+    returns)

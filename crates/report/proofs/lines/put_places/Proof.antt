@@ -36,7 +36,7 @@ put-place-requires : tie.Need-put-place-requires Inv-loop μ-loop
 unfolding placeRecord
 put-place-requires c κs =
     let l = c .before .before .before in
-    (search needs, formed (l .before .before .args .t3) (l .before .before .pre .1) .whole-places (l .loop .i) (search needs))
+    (search needs, formed (l .before .before .args .t3) (l .before .before .pre .1) .whole-places (l .loop .i) (search needs) .balance)
 
 add-i : tie.Need-add-i Inv-loop μ-loop
 add-i c = search needs
