@@ -2,22 +2,24 @@
 use Prim.Native.Nat.{ℕ, suc, _+_, _-_, _*_, _%_, _^_, _<_, _≤_}
 use mathlib.Core.Path.{_≡_, ap, sym, _∙_}
 use mathlib.Core.Logic.{_⊎_, ⊎-elim}
-use mathlib.Core.Bool.{true}
+use mathlib.Core.Bool.{true, _&&_}
 use native.Mathlib.Omega.{arith}
-use native.Mathlib.Nat.{mul-right-comm, mul-assoc, eq-of-mul-eq-mul-right, mul-mod-left, pow-suc, le-antisymm, add-mul, le-max-left}
+use native.Mathlib.Nat.{mul-comm, mul-right-comm, mul-assoc, eq-of-mul-eq-mul-right, mul-mod-left, pow-suc, le-antisymm, add-mul, sub-add-cancel, le-max-left, le-max-right}
+use lib.Dec.{leb, ltb}
 use lib.Pow.{pow-add}
+use borrow.Author.Tests.{leb-true}
 use Rattle.amount.specs.Numbers.{val, limit, halves}
 use Rattle.amount.specs.Canonical.{strip, lowest, wholeText, decimalText, canonicalText}
 use Rattle.amount.specs.Texts.{digitsIn, placesIn, Same, SameValue, InRange, Canonical}
-use Rattle.amount.specs.Amounts.{readOf, compareOf, commonScale, mantissaAt, sumOf}
+use Rattle.amount.specs.Amounts.{readOf, compareOf, commonScale, mantissaAt, sumOf, differenceOf}
 use Rattle.amount.specs.declared.Amount.{Amount}
-use Rattle.amount.specs.declared.AmountResult.the-variants.{Ok, Overflow}
+use Rattle.amount.specs.declared.AmountResult.the-variants.{Ok, Overflow, Underflow}
 use Rattle.amount.specs.declared.uint128.Ordering.the-variants.{Greater}
 use Rattle.amount.proofs.Scaling.{ten-pos, ten-join}
 use Rattle.amount.proofs.Widths.{below-or-not}
 use Rattle.amount.proofs.Cutting.{cut, cut-digits, cut-places, canonical, whole-number, whole-length, whole-digits, width-some}
 use Rattle.amount.proofs.Assembling.{width-few}
-use Rattle.amount.proofs.Reading.{read-given, if-is}
+use Rattle.amount.proofs.Reading.{read-given, if-is, and-right}
 use Rattle.amount.proofs.Halves.{val-halves, OrderFact, order-fact, order-is}
 use Rattle.amount.proofs.Stripping.{stripped-lowest}
 
@@ -100,3 +102,43 @@ sum-no-less a b c e g =
     let f = if-is Overflow true (mantissaAt a k + mantissaAt b k) k c (λ h. let z : _≡_ {A = ℕ} 0 1 = cc in omega arith) (sym e) in
     no-less (val (a .mantissa)) (mantissaAt b k) (a .scale) k (le-max-left (a .scale) (b .scale))
     (order-is _ _ (sym (rw (f .2, val-halves (mantissaAt a k + mantissaAt b k)) at g)))
+
+-- A sum or a difference that is given is exact, cross-multiplied, at every pair of scales: c is a + b, and c + b is a.
+cross : (p x y m k : ℕ) → p * x ≡ m * k → p * (x * y) ≡ m * y * k
+cross p x y m k e = sym (mul-assoc p x y) ∙ ap (λ (z : ℕ). z * y) e ∙ mul-right-comm m k y
+
+module _ (a b : Amount) where
+  abbrev larger : ℕ
+  larger = commonScale a b
+
+  abbrev scales : ℕ
+  scales = 10 ^ (a .scale) * 10 ^ (b .scale)
+
+  first-part : mantissaAt a larger * scales ≡ val (a .mantissa) * 10 ^ (b .scale) * 10 ^ larger
+  unfolding mantissaAt
+  first-part =
+      cross (mantissaAt a larger) (10 ^ (a .scale)) (10 ^ (b .scale)) (val (a .mantissa)) (10 ^ larger) (ten-join (val (a .mantissa)) (a .scale) larger (le-max-left (a .scale) (b .scale)))
+
+  second-part : mantissaAt b larger * scales ≡ val (b .mantissa) * 10 ^ (a .scale) * 10 ^ larger
+  unfolding mantissaAt
+  second-part =
+      ap (λ (z : ℕ). mantissaAt b larger * z) (mul-comm (10 ^ (a .scale)) (10 ^ (b .scale)))
+      ∙ cross (mantissaAt b larger) (10 ^ (b .scale)) (10 ^ (a .scale)) (val (b .mantissa)) (10 ^ larger) (ten-join (val (b .mantissa)) (b .scale) larger (le-max-right (a .scale) (b .scale)))
+
+  module _ (c : Amount) where
+    pub sum-is-exact : sumOf a b ≡ Ok c
+        → val (c .mantissa) * (10 ^ (a .scale) * 10 ^ (b .scale)) ≡ val (a .mantissa) * 10 ^ (b .scale) * 10 ^ (c .scale) + val (b .mantissa) * 10 ^ (a .scale) * 10 ^ (c .scale)
+    unfolding sumOf
+    sum-is-exact e =
+        let f = if-is Overflow true (mantissaAt a larger + mantissaAt b larger) larger c (λ h. let z : _≡_ {A = ℕ} 0 1 = cc in omega arith) (sym e) in
+        rw (f .2, val-halves (mantissaAt a larger + mantissaAt b larger)) (omega (arith, add-mul (mantissaAt a larger) (mantissaAt b larger) scales, first-part, second-part))
+
+    pub difference-is-exact : differenceOf a b ≡ Ok c
+        → val (c .mantissa) * (10 ^ (a .scale) * 10 ^ (b .scale)) + val (b .mantissa) * 10 ^ (a .scale) * 10 ^ (c .scale) ≡ val (a .mantissa) * 10 ^ (b .scale) * 10 ^ (c .scale)
+    unfolding differenceOf
+    difference-is-exact e =
+        let p : ℕ = mantissaAt a larger in
+        let q : ℕ = mantissaAt b larger in
+        let f = if-is Underflow (ltb p limit && leb q p) (p - q) larger c (λ h. let z : _≡_ {A = ℕ} 0 1 = cc in omega arith) (sym e) in
+        let l : q ≤ p = leb-true q p (and-right (ltb p limit) (leb q p) (f .0)) in
+        rw (f .2, val-halves (p - q)) (omega (arith, add-mul (p - q) q scales, ap (λ (z : ℕ). z * scales) (sub-add-cancel l), first-part, second-part))

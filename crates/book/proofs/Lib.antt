@@ -16,5 +16,7 @@ pub mod Whole
 pub mod Steady
 pub mod Orders
 pub mod Worked
+pub mod Answers
 pub mod Effects
 pub mod Applies
+pub mod Accounts

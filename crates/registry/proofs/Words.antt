@@ -31,7 +31,7 @@ use Rattle.registry.specs.declared.error.Reading.the-variants.{Given, Fa
 use Rattle.registry.proofs.Readers.{amount-in-is, not-text}
 
 -- no refusal has the number 0
-refusal-positive : (e : ProfileError) → 0 < refusalOf e .number
+pub refusal-positive : (e : ProfileError) → 0 < refusalOf e .number
 refusal-positive (TornState w) = omega arith
 refusal-positive TornInput = omega arith
 refusal-positive UnknownProfile = omega arith

@@ -1,7 +1,7 @@
 -- Document 01, section "Operations", the answer of apply and credit: 20 last; a refusal writes nothing, an accepted call the first bytes only.
 use mathlib.Core.List.{List}
 use Prim.Native.Nat.{ℕ, _<_, _≤_}
-use lib.ListN.{length}
+use lib.ListN.{length, getD}
 use Rattle.writer.specs.Encode.{putInto, putAnswer}
 use Rattle.sheet.specs.Fields.{field}
 use Rattle.writer.specs.declared.Put.{Put}
@@ -37,6 +37,10 @@ answerTo (Next.Refused e) s i old = refusalOf e
 unfoldable pub bufferAfter : Next → List ℕ → List ℕ → List ℕ → List ℕ
 bufferAfter (Next.State n) s i old = stateBuffer n s i old
 bufferAfter (Next.Refused e) s i old = old
+
+-- what every slice of bytes is: a premise of theorems
+abbrev pub Bytes : List ℕ → Type 0
+Bytes s = (k : ℕ) → getD s k 0 < 256
 
 -- For the private helpers: texts of at most 256 bytes, so that the length fits 16 bits.
 
