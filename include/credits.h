@@ -23,8 +23,8 @@ typedef struct { uint64_t hi, lo; } credits_uint128;
 /* The value mantissa / 10^scale. */
 typedef struct { credits_uint128 mantissa; uint8_t scale; } credits_amount;
 
-/* number 0 and the amount; or 10, 17 or 18 and zero. */
-typedef struct { uint8_t number; credits_amount amount; } credits_given;
+/* number 0 and the amount; or 10, 17 or 18 and zero. detail is always 0. */
+typedef struct { uint8_t number, detail; credits_amount amount; } credits_given;
 
 /* The first len bytes; the others are 0. */
 typedef struct { uint8_t bytes[257]; uint16_t len; } credits_text;
@@ -45,7 +45,9 @@ typedef struct { credits_name subject; credits_amount balance; } credits_place;
 typedef struct { uint8_t from, to; credits_amount amount; } credits_transfer;
 
 /* Bit p of opened: place p is open. Bit t of pending: transfer t is under way. Integers and arrays only: every byte
- * pattern is a book, and a step refuses one that no steps lead to by number 28. To keep a book, copy its bytes. */
+ * pattern is a book. A step refuses by 28 a book whose total is above 2^128 - 1, whose unit or an open place's subject is
+ * empty or over 32 bytes, with a scale other than 0, or with a transfer under way that names a place that isn't open. 28 is
+ * no checksum: a book that was altered and passes it is taken as it is. To keep a book, copy its bytes. */
 typedef struct {
     credits_name unit;
     uint16_t opened;

@@ -17,6 +17,7 @@ pub struct Amount {
 #[derive(Clone, Copy)]
 pub struct Given {
     pub number: u8,
+    pub detail: u8,
     pub amount: Amount,
 }
 

@@ -10,7 +10,7 @@ use lib.Pow.{pow-add}
 use lib.Dec.{lit≤}
 use lib.ListN.{length, replicate, length-append, replicate-append-replicate}
 use Rattle.amount.specs.Numbers.{val, limit}
-use Rattle.amount.specs.Canonical.{strip, lastDigits, widthUpTo, widthOf, wholeText, decimalText, canonicalText, zeros, textOf}
+use Rattle.amount.specs.Canonical.{strip, lastDigits, widthUpTo, widthOf, wholeText, decimalText, canonicalText, zeros, asText}
 use Rattle.amount.specs.declared.Amount.{Amount}
 use Rattle.amount.proofs.Widths.{below-or-not, width-stop, width-bounds, width-lower}
 
@@ -55,8 +55,8 @@ pub width-few : (q : ℕ) → widthOf q ≤ 39
 unfolding widthOf
 width-few q = width-bounds 38 q .1
 
-text-of : (t b : List ℕ) (len : ℕ) → length t ≡ len → b ≡ t ++ zeros (257 - len) → record { bytes = b; len = len } ≡ textOf t
-unfolding textOf
+text-of : (t b : List ℕ) (len : ℕ) → length t ≡ len → b ≡ t ++ zeros (257 - len) → record { bytes = b; len = len } ≡ asText t
+unfolding asText
 text-of t b len e f = rw (f, e)
 
 decimal-whole : (m s w : ℕ) → s ≡ 0 → w ≡ widthOf m → decimalText m s ≡ lastDigits w m
@@ -79,14 +79,14 @@ module _ (a whole : Amount) (e : whole ≡ strip (a .scale) (val (a .mantissa)))
   unfolding canonicalText
   text-is = rw e
 
-  pub whole-only : (b : List ℕ) (w : ℕ) → whole .scale ≡ 0 → w ≡ widthOf (val (whole .mantissa)) → b ≡ zeros (w - w) ++ (lastDigits w (val (whole .mantissa)) ++ zeros (257 - w)) → record { bytes = b; len = w } ≡ textOf (canonicalText a)
+  pub whole-only : (b : List ℕ) (w : ℕ) → whole .scale ≡ 0 → w ≡ widthOf (val (whole .mantissa)) → b ≡ zeros (w - w) ++ (lastDigits w (val (whole .mantissa)) ++ zeros (257 - w)) → record { bytes = b; len = w } ≡ asText (canonicalText a)
   whole-only b w z g h =
       let m = val (whole .mantissa) in
       let t : canonicalText a ≡ lastDigits w m = sym text-is ∙ decimal-whole m _ w z g in
       rw t (text-of (lastDigits w m) b w (length-digits w m) (h ∙ zeros-none w _))
 
   module _ (q w : ℕ) (f : q ≡ val (whole .mantissa) / 10 ^ (whole .scale)) (g : w ≡ widthOf q) where
-    pub with-point : (b : List ℕ) → (whole .scale ≡ 0 → ⊥) → b ≡ zeros (w - w) ++ (lastDigits w q ++ (46 ∷ (lastDigits (whole .scale) (val (whole .mantissa)) ++ zeros (257 - (w + 1 + whole .scale))))) → record { bytes = b; len = w + 1 + whole .scale } ≡ textOf (canonicalText a)
+    pub with-point : (b : List ℕ) → (whole .scale ≡ 0 → ⊥) → b ≡ zeros (w - w) ++ (lastDigits w q ++ (46 ∷ (lastDigits (whole .scale) (val (whole .mantissa)) ++ zeros (257 - (w + 1 + whole .scale))))) → record { bytes = b; len = w + 1 + whole .scale } ≡ asText (canonicalText a)
     with-point b z h =
         let s = whole .scale in
         let d = lastDigits s (val (whole .mantissa)) in

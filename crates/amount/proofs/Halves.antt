@@ -7,7 +7,8 @@ use native.Mathlib.Omega.{arith}
 use native.Mathlib.Nat.{le-trans, lt-trans, le-add-right, mul-le-mul-right, mul-right-comm, mul-assoc, add-mul, div-add-mod', div-lt-iff-lt-mul, mod-lt, mod-eq-of-lt, add-mul-mod-self-right, add-mod-right}
 use lib.Arith.{digits-lt, digits-div, digits-mod, lt-of-le-ne}
 use borrow.Author.Tests.{lt-ltb, le-ltb, le-leb, lt-leb, eq-eqb, ne-eqb, ltb-true, ltb-false, leb-true, leb-false, eqb-true, eqb-false}
-use Rattle.amount.specs.Numbers.{val, limit, halves, orderOf, checked, difference, tenths, divisionOf}
+use Rattle.amount.specs.Numbers.{val, limit, halves, orderOf}
+use Rattle.amount.specs.Helpers.{checked, checkedLess, tenths, divisionOf}
 use Rattle.amount.specs.declared.uint128.Uint128.{Uint128}
 use Rattle.amount.specs.declared.uint128.Divided.{Divided}
 use Rattle.amount.specs.declared.uint128.Division.{Division}
@@ -55,13 +56,13 @@ unfolding checked limit
 checked-outside h l n f e =
     simp (le-ltb n (2 ^ 128) (rw e at (le-trans (mul-le-mul-right (2 ^ 64) f) (le-add-right (h * 2 ^ 64) l))))
 
-pub difference-number : (x : Uint128) (a b : ℕ) → x .lo < 2 ^ 64 → val x + b ≡ a → Some x ≡ difference a b
-unfolding difference
+pub difference-number : (x : Uint128) (a b : ℕ) → x .lo < 2 ^ 64 → val x + b ≡ a → Some x ≡ checkedLess a b
+unfolding checkedLess
 difference-number x a b h e =
     simp (le-leb b a (omega arith)) (ap Some (halves-of x (a - b) h (omega arith)))
 
-pub difference-outside : (a b : ℕ) → a < b → None ≡ difference a b
-unfolding difference
+pub difference-outside : (a b : ℕ) → a < b → None ≡ checkedLess a b
+unfolding checkedLess
 difference-outside a b f = simp (lt-leb b a f)
 
 -- a sum and a difference by halves, with a carry k
@@ -220,16 +221,16 @@ difference-number-case : (t : Bool) (a b : ℕ) (x : Uint128) → leb b a ≡ t 
 difference-number-case true a b x e h = (leb-true b a e, cc)
 difference-number-case false a b x e h = let z : _≡_ {A = ℕ} 0 1 = cc in (omega arith, cc)
 
-pub difference-is : (a b : ℕ) (x : Uint128) → Some x ≡ difference a b → (b ≤ a) × (x ≡ halves (a - b))
-unfolding difference
+pub difference-is : (a b : ℕ) (x : Uint128) → Some x ≡ checkedLess a b → (b ≤ a) × (x ≡ halves (a - b))
+unfolding checkedLess
 difference-is a b x h = difference-number-case (leb b a) a b x refl h
 
 difference-outside-case : (t : Bool) (a b : ℕ) → leb b a ≡ t → None ≡ cond t (Some (halves (a - b))) None → a < b
 difference-outside-case true a b e h = let z : _≡_ {A = ℕ} 0 1 = cc in omega arith
 difference-outside-case false a b e h = leb-false b a e
 
-pub difference-none : (a b : ℕ) → None ≡ difference a b → a < b
-unfolding difference
+pub difference-none : (a b : ℕ) → None ≡ checkedLess a b → a < b
+unfolding checkedLess
 difference-none a b h = difference-outside-case (leb b a) a b refl h
 
 -- a number that its halves determine

@@ -3,7 +3,8 @@ use Prim.Native.Nat.{ℕ, _+_, _-_, _*_, _^_, _<_, _≤_}
 use mathlib.Core.Path.{_≡_, refl, ap, sym, _∙_}
 use native.Mathlib.Omega.{arith}
 use native.Mathlib.Nat.{mul-one, mul-assoc, mul-comm, mul-le-mul-left, add-zero}
-use Rattle.amount.specs.Numbers.{val, checked}
+use Rattle.amount.specs.Numbers.{val}
+use Rattle.amount.specs.Helpers.{checked}
 use Rattle.amount.specs.declared.uint128.Uint128.{Uint128}
 use Rattle.amount.specs.declared.uint128.Checked.the-variants.{Some, None}
 use Rattle.amount.proofs.Halves.{Whole, whole-halves, val-of, checked-is, checked-none, checked-fits, checked-large}

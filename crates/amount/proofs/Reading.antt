@@ -10,10 +10,11 @@ use borrow.Author.Tests.{lt-ltb, le-ltb, le-leb, lt-leb, ltb-true, leb-true}
 use lib.Dec.{ltb, leb}
 use lib.ListN.{length, take, drop, getD, take-append-drop, length-drop}
 use lib.Seq.{drop-cons, drop-length, drop-drop, length-take-le}
-use Rattle.amount.specs.Numbers.{val, limit, halves, checked}
+use Rattle.amount.specs.Numbers.{val, limit, halves}
+use Rattle.amount.specs.Helpers.{checked, wordOf}
 use Rattle.amount.specs.declared.uint128.Uint128.{Uint128}
 use Rattle.amount.specs.Decimal.{isDigit, allDigits, digitsAfter, decimal}
-use Rattle.amount.specs.Amounts.{amountIf, readOf, wordOf}
+use Rattle.amount.specs.Amounts.{amountIf, readOf}
 use Rattle.amount.specs.declared.Amount.{Amount}
 use Rattle.amount.specs.declared.Word.the-variants.{Number, NotDigits}
 use Rattle.amount.specs.declared.AmountResult.{AmountResult}

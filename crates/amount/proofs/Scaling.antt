@@ -14,7 +14,8 @@ use Rattle.amount.specs.declared.uint128.Uint128.{Uint128}
 use Rattle.amount.specs.declared.uint128.Ordering.{Ordering}
 use Rattle.amount.specs.declared.uint128.Ordering.the-variants.{Less, Equal, Greater}
 use Rattle.amount.proofs.Halves.{order-less, order-equal, order-greater, order-fact, OrderFact, val-zero}
-use Rattle.amount.specs.Amounts.{ReducedBy, reverseOf, compareOf}
+use Rattle.amount.specs.Amounts.{compareOf}
+use Rattle.amount.specs.Helpers.{ReducedBy, reverseOf}
 use Rattle.amount.specs.declared.Reduced.{Reduced}
 use Rattle.amount.specs.declared.Amount.{Amount}
 

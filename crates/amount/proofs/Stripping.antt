@@ -7,7 +7,8 @@ use native.Mathlib.Omega.{arith}
 use native.Mathlib.Nat.{pow-suc, mul-assoc, mul-right-comm}
 use borrow.Author.Tests.{eq-eqb, ne-eqb, eqb-true, eqb-false}
 use lib.Dec.{eqb}
-use Rattle.amount.specs.Numbers.{val, halves, tenths}
+use Rattle.amount.specs.Numbers.{val, halves}
+use Rattle.amount.specs.Helpers.{tenths}
 use Rattle.amount.specs.declared.uint128.Uint128.{Uint128}
 use Rattle.amount.specs.declared.uint128.Divided.{Divided}
 use Rattle.amount.proofs.Halves.{Whole, whole-halves, val-of, val-halves, tenths-quotient, tenths-digit}

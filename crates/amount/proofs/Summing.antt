@@ -6,8 +6,9 @@ use mathlib.Core.Logic.{_⊎_, inl, inr, ⊎-elim}
 use native.Mathlib.Omega.{arith}
 use borrow.Author.Tests.{lt-ltb, le-ltb, le-leb, lt-leb, ltb-true, ltb-false}
 use lib.Dec.{ltb, leb}
-use Rattle.amount.specs.Numbers.{val, limit, halves, checked, difference}
-use Rattle.amount.specs.Amounts.{mantissaAt, commonScale, sumOf, differenceOf, alignedOf}
+use Rattle.amount.specs.Numbers.{val, limit, halves}
+use Rattle.amount.specs.Helpers.{checked, checkedLess, alignedOf}
+use Rattle.amount.specs.Amounts.{mantissaAt, commonScale, sumOf, differenceOf}
 use Rattle.amount.specs.declared.uint128.Uint128.{Uint128}
 use Rattle.amount.specs.declared.uint128.Checked.the-variants.{Some, None}
 use Rattle.amount.specs.declared.Amount.{Amount}
@@ -100,11 +101,11 @@ module _ (a b : Amount) where
         let k = checked-is _ x (rw (left-is, right-is) at e) in
         rw scale-is (if-given _ x (A + B) _ (k .0) (k .1))
 
-    pub subtract-less : None ≡ difference (val (p .left)) (val (p .right)) → Underflow ≡ differenceOf a b
+    pub subtract-less : None ≡ checkedLess (val (p .left)) (val (p .right)) → Underflow ≡ differenceOf a b
     subtract-less e =
         difference-refused (rw (lt-leb B A (difference-none _ _ (rw (left-is, right-is) at e)), and-false (ltb A limit)))
 
-    pub subtract-given : (x : Uint128) → Some x ≡ difference (val (p .left)) (val (p .right)) → Ok (record { mantissa = x; scale = p .scale }) ≡ differenceOf a b
+    pub subtract-given : (x : Uint128) → Some x ≡ checkedLess (val (p .left)) (val (p .right)) → Ok (record { mantissa = x; scale = p .scale }) ≡ differenceOf a b
     unfolding differenceOf
     subtract-given x e =
         let k = difference-is _ _ x (rw (left-is, right-is) at e) in

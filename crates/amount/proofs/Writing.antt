@@ -9,7 +9,7 @@ use lib.Arith.{mod-mul, digits-div}
 use lib.ListN.{replicate, set}
 use lib.Pow.{pow-add}
 use Rattle.amount.specs.Canonical.{lastDigits, zeros}
-use Rattle.amount.specs.Numbers.{divisionOf}
+use Rattle.amount.specs.Helpers.{divisionOf}
 use Rattle.amount.specs.declared.uint128.Division.{Division}
 use Rattle.amount.proofs.Halves.{division-rest}
 use Rattle.amount.proofs.Scaling.{ten-pos, ten-more}

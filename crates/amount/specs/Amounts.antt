@@ -1,10 +1,9 @@
 -- Reading, order, sum and difference: document 01's section "Amount".
 -- An amount's value is mantissa / 10^scale, so a ≤ b is a's mantissa · 10^(b's scale) ≤ b's mantissa · 10^(a's scale).
-use Prim.Native.Nat.{ℕ, _+_, _-_, _*_, _/_, _%_, _^_, max}
-use mathlib.Core.Bool.{Bool, true, cond, _&&_, not}
+use Prim.Native.Nat.{ℕ, _+_, _-_, _*_, _^_, max}
+use mathlib.Core.Bool.{Bool, true, cond, _&&_}
 use mathlib.Core.List.{List}
-use mathlib.Core.Path.{_≡_}
-use lib.Dec.{ltb, leb, eqb}
+use lib.Dec.{ltb, leb}
 use lib.ListN.{length}
 use Rattle.amount.specs.Numbers.{val, limit, halves, orderOf}
 use Rattle.amount.specs.Decimal.{allDigits, decimal}
@@ -12,11 +11,6 @@ use Rattle.amount.specs.declared.uint128.Ordering.{Ordering}
 use Rattle.amount.specs.declared.uint128.Ordering.the-variants.{Less, Equal, Greater}
 use Rattle.amount.specs.declared.Amount.{Amount}
 use Rattle.amount.specs.declared.Given.{Given}
-use Rattle.amount.specs.declared.Reduced.{Reduced}
-use Rattle.amount.specs.declared.Aligned.{Aligned}
-use Rattle.amount.specs.declared.Aligned.the-variants.{At, Outside}
-use Rattle.amount.specs.declared.Word.{Word}
-use Rattle.amount.specs.declared.Word.the-variants.{Number, NotDigits}
 use Rattle.amount.specs.declared.AmountResult.{AmountResult}
 use Rattle.amount.specs.declared.AmountResult.the-variants.{Ok, NotWhole, Overflow, Underflow}
 
@@ -33,13 +27,13 @@ unfoldable pub compareOf : Amount → Amount → Ordering
 compareOf a b = orderOf (val (a .mantissa) * 10 ^ (b .scale)) (val (b .mantissa) * 10 ^ (a .scale))
 
 -- the lesser; b on a tie
-abbrev pub lesser : Ordering → Amount → Amount → Amount
-lesser Less a b = a
-lesser Equal a b = b
-lesser Greater a b = b
+abbrev pub lesserBy : Ordering → Amount → Amount → Amount
+lesserBy Less a b = a
+lesserBy Equal a b = b
+lesserBy Greater a b = b
 
 unfoldable pub minOf : Amount → Amount → Amount
-minOf a b = lesser (compareOf a b) a b
+minOf a b = lesserBy (compareOf a b) a b
 
 -- the scale at which two amounts are added and subtracted: the larger
 abbrev pub commonScale : Amount → Amount → ℕ
@@ -61,36 +55,12 @@ differenceOf a b =
     (mantissaAt a (commonScale a b) - mantissaAt b (commonScale a b))
     (commonScale a b)
 
--- the number that document 01's table gives each case, and the amount: zero at scale 0 where it is a refusal
+-- the number that document 01's table gives each case, detail 0, and the amount: zero at scale 0 where it is a refusal
 abbrev pub refusedOf : ℕ → Given
-refusedOf number = record { number = number; amount = record { mantissa = record { hi = 0; lo = 0 }; scale = 0 } }
+refusedOf number = record { number = number; detail = 0; amount = record { mantissa = record { hi = 0; lo = 0 }; scale = 0 } }
 
-abbrev pub answerOf : AmountResult → Given
-answerOf (Ok a) = record { number = 0; amount = a }
-answerOf NotWhole = refusedOf 10
-answerOf Overflow = refusedOf 17
-answerOf Underflow = refusedOf 18
-
--- For the private helpers.
-
--- the number that a text of digits stands for
-unfoldable pub wordOf : List ℕ → Word
-wordOf s = cond (allDigits s) (Number (decimal s)) NotDigits
-
--- both mantissas at the larger scale, where 128 bits hold them
-unfoldable pub alignedOf : Amount → Amount → Aligned
-alignedOf a b =
-    cond (ltb (mantissaAt a (commonScale a b)) limit && ltb (mantissaAt b (commonScale a b)) limit)
-    (At (record { left = halves (mantissaAt a (commonScale a b)); right = halves (mantissaAt b (commonScale a b)); scale = commonScale a b }))
-    Outside
-
--- r is n divided by 10^d, and whether something was left
-pub record ReducedBy (n d : ℕ) (r : Reduced) : Type 0 where
-  pub quotient : val (r .quotient) ≡ n / 10 ^ d
-  pub rest : r .rest ≡ not (eqb (n % 10 ^ d) 0)
-
--- the order of the same two the other way round
-abbrev pub reverseOf : Ordering → Ordering
-reverseOf Less = Greater
-reverseOf Equal = Equal
-reverseOf Greater = Less
+abbrev pub givenOf : AmountResult → Given
+givenOf (Ok a) = record { number = 0; detail = 0; amount = a }
+givenOf NotWhole = refusedOf 10
+givenOf Overflow = refusedOf 17
+givenOf Underflow = refusedOf 18

@@ -48,5 +48,5 @@ unfoldable pub zeros : ℕ → List ℕ
 zeros n = replicate n 0
 
 -- a text in a fixed array, filled up with zeros
-unfoldable pub textOf : List ℕ → Text
-textOf l = record { bytes = l ++ zeros (257 - length l); len = length l }
+unfoldable pub asText : List ℕ → Text
+asText l = record { bytes = l ++ zeros (257 - length l); len = length l }

@@ -4,3 +4,4 @@ pub mod Decimal
 pub mod Amounts
 pub mod Canonical
 pub mod Texts
+pub mod Helpers

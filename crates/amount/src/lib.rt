@@ -4,8 +4,9 @@ ghost use mathlib.Core.Path.{_≡_};
 ghost use Prim.Native.Nat.{ℕ, _+_, _*_, _/_, _%_, _^_, _≤_, max, min};
 ghost use lib.Dec.{eqb};
 ghost use lib.ListN.{length};
-ghost use Rattle.amount.specs.Numbers.{val, checked, orderOf};
-ghost use Rattle.amount.specs.Amounts.{answerOf, refusedOf, readOf, wordOf, compareOf, minOf, sumOf, differenceOf, alignedOf, ReducedBy, reverseOf};
+ghost use Rattle.amount.specs.Numbers.{val, orderOf};
+ghost use Rattle.amount.specs.Helpers.{checked, wordOf, alignedOf, ReducedBy, reverseOf};
+ghost use Rattle.amount.specs.Amounts.{givenOf, refusedOf, readOf, compareOf, minOf, sumOf, differenceOf};
 
 mod text;
 mod uint128;
@@ -35,19 +36,25 @@ pub enum AmountResult {
     Underflow,
 }
 
-// The same for a caller that goes by numbers: 0 and the amount, or the refusal's number and `ZERO`.
+// The same for a caller that goes by numbers: 0 and the amount, or the refusal's number and `ZERO`. No refusal of an amount alone has a
+// detail, so it is 0.
 #[repr(C)]
 pub struct Given {
     pub number: u8,
+    pub detail: u8,
     pub amount: Amount,
 }
 
 impl AmountResult {
     pub fn given(self) -> Given
-        ensures { λ r. ⌜ r ≡ answerOf self ⌝ }
+        ensures { λ r. ⌜ r ≡ givenOf self ⌝ }
     {
         match self {
-            AmountResult::Ok(amount) => Given { number: 0, amount },
+            AmountResult::Ok(amount) => Given {
+                number: 0,
+                detail: 0,
+                amount,
+            },
             AmountResult::NotWhole => refused(10),
             AmountResult::Overflow => refused(17),
             AmountResult::Underflow => refused(18),
@@ -195,6 +202,7 @@ fn refused(number: u8) -> Given
 {
     Given {
         number,
+        detail: 0,
         amount: Amount::ZERO,
     }
 }

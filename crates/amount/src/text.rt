@@ -4,7 +4,7 @@ ghost use mathlib.Core.List.{List, _++_};
 ghost use Prim.Native.Nat.{ℕ, _-_, _/_, _^_, _≤_};
 ghost use lib.ListN.{length};
 ghost use Rattle.amount.specs.Numbers.{val};
-ghost use Rattle.amount.specs.Canonical.{strip, widthOf, lastDigits, zeros, textOf, canonicalText};
+ghost use Rattle.amount.specs.Canonical.{strip, widthOf, lastDigits, zeros, asText, canonicalText};
 use super::Amount;
 use super::uint128::Uint128;
 use super::uint128::divide;
@@ -19,7 +19,7 @@ pub struct Text {
 
 impl Amount {
     pub fn to_canonical_string(self) -> Text
-        ensures { λ r. ⌜ r ≡ textOf (canonicalText self) ⌝ }
+        ensures { λ r. ⌜ r ≡ asText (canonicalText self) ⌝ }
     {
         let a = stripped(self);
         let mantissa = a.mantissa;

@@ -2,7 +2,8 @@
 ghost use mathlib.Core.Path.{_≡_};
 ghost use Prim.Native.Nat.{_+_, _-_, _*_, _%_, _^_, _<_, _≤_};
 ghost use lib.Dec.{eqb};
-ghost use Rattle.amount.specs.Numbers.{val, limit, halves, orderOf, checked, difference, tenths, divisionOf};
+ghost use Rattle.amount.specs.Numbers.{val, limit, halves, orderOf};
+ghost use Rattle.amount.specs.Helpers.{checked, checkedLess, tenths, divisionOf};
 use std::num::wrapping_add_u64;
 use std::num::wrapping_sub_u64;
 
@@ -75,7 +76,7 @@ impl Uint128 {
     }
 
     pub fn checked_sub(self, other: Uint128) -> Checked
-        ensures { λ r. ⌜ r ≡ difference (val self) (val other) ⌝ }
+        ensures { λ r. ⌜ r ≡ checkedLess (val self) (val other) ⌝ }
     {
         if self.hi < other.hi {
             return Checked::None;
@@ -127,14 +128,14 @@ impl Uint128 {
     }
 
     // Ten times the number, and a digit.
-    pub fn times_ten_plus(self, digit: u8) -> Checked
+    pub(crate) fn times_ten_plus(self, digit: u8) -> Checked
         ensures { λ r. ⌜ r ≡ checked (val self * 10 + digit) ⌝ }
     {
         times_plus(self, 10, digit as u32)
     }
 
     // The tenth of the number, and its last digit.
-    pub fn divide_by_ten(self) -> Divided
+    pub(crate) fn divide_by_ten(self) -> Divided
         ensures { λ r. ⌜ r ≡ tenths (val self) ⌝ }
     {
         let d = divide(self, 10);
@@ -147,7 +148,7 @@ impl Uint128 {
 }
 
 // A number divided by one of 32 bits: the upper half, then the lower one with what that leaves.
-pub fn divide(n: Uint128, divisor: u32) -> Division
+pub(crate) fn divide(n: Uint128, divisor: u32) -> Division
     requires { ⌜ 0 < divisor ⌝ }
     ensures { λ r. ⌜ r ≡ divisionOf (val n) divisor ⌝ }
 {
@@ -172,7 +173,7 @@ pub fn divide(n: Uint128, divisor: u32) -> Division
 }
 
 // 10^places, where a word holds it.
-pub fn power_of_ten(places: u8) -> u64
+pub(crate) fn power_of_ten(places: u8) -> u64
     requires { ⌜ places ≤ 19 ⌝ }
     ensures { λ r. ⌜ r ≡ 10 ^ places ⌝ }
 {
@@ -215,7 +216,7 @@ fn joined(a: u64, b: u64, carry: u64, lo: u64) -> Checked
 }
 
 // A number times one of 32 bits, and another more: the lower half, then the upper one with what passes that.
-pub fn times_plus(n: Uint128, factor: u32, add: u32) -> Checked
+pub(crate) fn times_plus(n: Uint128, factor: u32, add: u32) -> Checked
     ensures { λ r. ⌜ r ≡ checked (val n * factor + add) ⌝ }
 {
     let low = times_word(n.lo, factor, add);

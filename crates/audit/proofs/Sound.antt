@@ -9,8 +9,7 @@ use borrow.Author.Tests.{eq-eqb}
 use Rattle.amount.specs.Numbers.{limit, halves}
 use Rattle.amount.specs.declared.uint128.Uint128.{Uint128}
 use Rattle.book.specs.Sets.{has}
-use Rattle.book.specs.Book.{placeRecord, transferRecord, placeAt, transferAt, stockOf, carriedBy, credits, balances, creditsUnderWay, total}
-use Rattle.book.specs.Book.{nameOk, placeOk, scalesOk, transferOk, wellFormed}
+use Rattle.book.specs.Book.{placeRecord, transferRecord, placeAt, transferAt, stockOf, carriedBy, credits, balances, creditsUnderWay, total, nameOk, placeOk, scalesOk, transferOk, wellFormed}
 use Rattle.book.specs.declared.Book.{Book}
 use Rattle.book.proofs.Formed.{Formed, formed}
 use Rattle.audit.specs.Totals.{unsound, totalOf, totalIn, sumIn, Added}

@@ -9,7 +9,8 @@ use borrow.Author.Tests.{lt-ltb, le-ltb}
 use Rattle.amount.specs.Numbers.{val, limit, halves}
 use Rattle.amount.specs.declared.uint128.Uint128.{Uint128}
 use Rattle.amount.proofs.Halves.{Whole, halves-of, whole-of, val-of}
-use Rattle.book.specs.Sets.{has, entry, sum, every}
+use Rattle.sheet.specs.Walk.{sum, every}
+use Rattle.book.specs.Sets.{has, entry}
 use Rattle.book.specs.Book.{credits, placeRecord, transferRecord, placeAt, transferAt, stockOf, carriedBy, isSome, transferOk}
 use Rattle.book.specs.declared.Book.{Book}
 use Rattle.audit.specs.Totals.{unsound, totalIn, sumIn, Added}

@@ -14,15 +14,49 @@ use Rattle.sheet.specs.Fields.{field, subject, unit, balance, amount}
 use Rattle.registry.specs.Readers.{amountIn}
 use Rattle.registry.specs.declared.error.Outcome.{Outcome}
 use Rattle.registry.specs.declared.error.Outcome.the-variants as Check
+use Rattle.registry.proofs.Words as profile
 use Rattle.profiles.specs.Balance.{balanceRules}
 use Rattle.book.specs.Sets.{withBit, entry}
 use Rattle.book.specs.Book.{nameBytes, noPlace, noTransfer, placeAt, transferRecord, transferAt, total, isSome, wellFormed, openPlace, setRecord, setTransfer}
 use Rattle.book.specs.Steps.{Step, Open, Act, Begin, Finish, creditsIn, bytesIn, doing, acts, said, sameBytes, afterCheck, sheetSound, sentTo, testsOpen, testsAct, testsBegin, seen, answer, effect, next}
+use Rattle.book.specs.Refusals.{bookRefusalOf, bookAnswerOf}
 use Rattle.book.specs.declared.Book.{Book}
+use Rattle.book.specs.declared.error.BookError.{BookError}
+use Rattle.book.specs.declared.error.BookError.the-variants.{Profile, UnderWay, OffTheBook, Idle, Itself, TooMuch, OtherUnit, LongName, BadBook}
 use Rattle.book.specs.declared.error.BookOutcome.{BookOutcome}
 use Rattle.book.specs.declared.error.BookOutcome.the-variants.{Accepted, Refused}
 use Rattle.book.proofs.Tables.{bit-other}
 use Rattle.book.proofs.Invariant.{view-there}
+
+-- ---- the number
+
+refusal-positive : (e : BookError) → 0 < bookRefusalOf e .number
+refusal-positive (Profile e) = profile.refusal-positive e
+refusal-positive UnderWay = omega arith
+refusal-positive OffTheBook = omega arith
+refusal-positive Idle = omega arith
+refusal-positive Itself = omega arith
+refusal-positive TooMuch = omega arith
+refusal-positive OtherUnit = omega arith
+refusal-positive (LongName name) = omega arith
+refusal-positive BadBook = omega arith
+
+-- it is 0 exactly where the outcome is accepted
+pub zero-is-accepted : (o : BookOutcome) → bookAnswerOf o .number ≡ 0 → o ≡ Accepted
+zero-is-accepted Accepted h = refl
+zero-is-accepted (Refused e) h = absurd (omega (arith, h, refusal-positive e))
+
+pub accepted-is-zero : (o : BookOutcome) → o ≡ Accepted → bookAnswerOf o .number ≡ 0
+accepted-is-zero o h = rw h
+
+-- Demand 1: "a refusal alters no .. book"
+pub refusal-alters-nothing : (b : Book) (s : Step) → (bookAnswerOf (answer b s) .number ≡ 0 → ⊥) → next b s ≡ b
+unfolding next
+refusal-alters-nothing b s h = go (answer b s) refl
+  where
+    go : (o : BookOutcome) → answer b s ≡ o → next b s ≡ b
+    go Accepted e = absurd (h (accepted-is-zero (answer b s) e))
+    go (Refused r) e = rw e
 
 -- ---- the answer
 

@@ -127,15 +127,15 @@ module _ (b : Book) (f : Formed b) (p : ℕ) (low : p < 16) (here : isSome (plac
   subject-there : 0 < length (nameBytes (placeRecord b p .subject))
   subject-there = name-there (placeRecord b p .subject) (n .subject) (rw (place-raw b p here .1) at (f .places p low))
 
-open-there : (b : Book) (p : ℕ) → seen b .place p .there ≡ true → isSome (placeAt b p) ≡ true
+pub open-there : (b : Book) (p : ℕ) → seen b .place p .there ≡ true → isSome (placeAt b p) ≡ true
 unfolding seen
 open-there b p h = sym (view-there (nameBytes (b .unit)) (placeAt b p)) ∙ h
 
-transfer-there : (b : Book) (t : ℕ) → seen b .busy t ≡ true → isSome (transferAt b t) ≡ true
+pub transfer-there : (b : Book) (t : ℕ) → seen b .busy t ≡ true → isSome (transferAt b t) ≡ true
 unfolding seen
 transfer-there b t h = h
 
-view-is : (b : Book) (p : ℕ) → isSome (placeAt b p) ≡ true → seen b .place p ≡ placeView (nameBytes (placeRecord b p .subject)) (nameBytes (b .unit)) (placeRecord b p .balance)
+pub view-is : (b : Book) (p : ℕ) → isSome (placeAt b p) ≡ true → seen b .place p ≡ placeView (nameBytes (placeRecord b p .subject)) (nameBytes (b .unit)) (placeRecord b p .balance)
 unfolding seen
 view-is b p here = rw (place-raw b p here .1)
 

@@ -6,20 +6,14 @@ use Prim.Native.Nat.{ℕ}
 use lib.ListN.{length}
 use borrow.Author.Tests.{ne-eqb}
 use Rattle.amount.specs.declared.Amount.{Amount}
-use Rattle.sheet.specs.Fields.{Field, text, amount, to-subject}
-use Rattle.registry.specs.Readers.{textIn, amountIn, amountOf}
-use Rattle.registry.specs.Tests.{asking, stateThere, first, born, in-text}
+use Rattle.sheet.specs.Fields.{Field, text, to-subject}
+use Rattle.registry.specs.Readers.{textIn}
+use Rattle.registry.specs.Tests.{stateThere, first, born, in-text}
 use Rattle.registry.specs.declared.error.Reading.{Reading}
-use Rattle.registry.proofs.Tests.{then-end}
 use Rattle.profiles.specs.Balance.{debited}
 use Rattle.book.specs.Places.{placeView, putField}
 
 module _ (s u : List ℕ) (b : Amount) (inp : ℕ → Field) where
-  -- debit's list is its amount, 14 and 15
-  pub debit-asks : asking b amount (inp amount) ≡ first amountIn (placeView s u b) inp (born ∷ debited)
-  unfolding stateThere amountOf
-  debit-asks = rw then-end
-
   -- begin: transfer's list with the destination's subject put in is debit's
   pub begin-debits : (read : ℕ → Field → Reading) (d : List ℕ) → length d ≢ 0
       → first read (placeView s u b) (putField inp to-subject (text d)) (born ∷ in-text to-subject ∷ debited) ≡ first read (placeView s u b) inp (born ∷ debited)

@@ -5,7 +5,7 @@ use Prim.Native.Nat.{ℕ, _<_}
 use lib.Dec.{eqb, ltb}
 use borrow.Author.Tests.{eq-eqb, eqb-true, ltb-true, lt-ltb}
 use Rattle.amount.specs.Numbers.{limit}
-use Rattle.book.specs.Sets.{every}
+use Rattle.sheet.specs.Walk.{every}
 use Rattle.book.specs.Book.{placeRecord, transferRecord, placeAt, transferAt, total, nameOk, placeOk, scalesOk, transferOk, wellFormed}
 use Rattle.book.specs.declared.Place.{Place}
 use Rattle.book.specs.declared.Book.{Book}

@@ -16,7 +16,10 @@ pub mod Whole
 pub mod Steady
 pub mod Orders
 pub mod Worked
+pub mod AcceptedOrRefused
 pub mod Answers
 pub mod Effects
 pub mod Applies
 pub mod Accounts
+pub mod AccountBytes
+pub mod Refuted

@@ -8,7 +8,7 @@ use mathlib.Core.List.{[]}
 use Prim.Native.Nat.{ℕ, zero, suc, _+_, _<_}
 use native.Mathlib.Omega.{arith}
 use Rattle.amount.specs.Numbers.{limit}
-use Rattle.book.specs.Sets.{sum}
+use Rattle.sheet.specs.Walk.{sum}
 use Rattle.book.specs.Book.{placeAt, transferAt, stockOf, carriedBy, balances, creditsUnderWay, total, isSome, transferOk, wellFormed}
 use Rattle.book.specs.Steps.{Step, answer, effect, next}
 use Rattle.book.specs.Plain.{Plain, stock, plainTotal}

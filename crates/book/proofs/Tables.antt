@@ -12,7 +12,8 @@ use lib.Dec.{eqb}
 use lib.ListN.{length, getD, set, length-set}
 use lib.Seq.{getD-set-same, getD-set-other}
 use borrow.Author.Tests.{eq-eqb, ne-eqb}
-use Rattle.book.specs.Sets.{bit, withBit, entry, sum, every}
+use Rattle.sheet.specs.Walk.{sum, every}
+use Rattle.book.specs.Sets.{bit, withBit, entry}
 
 -- ---- a function altered at one index
 

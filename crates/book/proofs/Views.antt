@@ -11,7 +11,8 @@ use lib.Dec.{eqb}
 use lib.ListN.{getD}
 use borrow.Author.Tests.{eq-eqb, ne-eqb, eqb-true}
 use Rattle.amount.specs.Numbers.{limit}
-use Rattle.book.specs.Sets.{bit, entry, sum}
+use Rattle.sheet.specs.Walk.{sum}
+use Rattle.book.specs.Sets.{bit, entry}
 use Rattle.book.specs.Book.{credits, blankTransfer, noPlace, noTransfer, placeRecord, transferRecord, placeAt, transferAt, stockOf, carriedBy, balances, creditsUnderWay, total, isSome, nameOk, placeOk, transferOk, wellFormed, setOpened, setPending, setPlaces, setTransfers, openPlace, setRecord, setTransfer}
 use Rattle.book.specs.declared.Place.{Place}
 use Rattle.book.specs.declared.Transfer.{Transfer}

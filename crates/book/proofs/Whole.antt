@@ -14,7 +14,8 @@ use borrow.Author.Tests.{eq-eqb, ne-eqb, eqb-true, eqb-false, ltb-false}
 use Rattle.amount.specs.Numbers.{limit}
 use Rattle.sheet.specs.Fields.{unit}
 use Rattle.registry.specs.declared.error.ProfileError.the-variants.{Empty}
-use Rattle.book.specs.Sets.{bit, withBit, every, count}
+use Rattle.sheet.specs.Walk.{every}
+use Rattle.book.specs.Sets.{bit, withBit, occurrences}
 use Rattle.book.specs.Book.{nameBytes, nameOf, blankPlace, blankTransfer, blankBook, noPlace, noTransfer, placeRecord, transferRecord, placeAt, transferAt, stockOf, carriedBy, balances, creditsUnderWay, total, nameOk, setUnit, scalesOk, setRecord, setTransfer}
 use Rattle.book.specs.Steps.{Step, Open, Act, Begin, Finish, Route, refusedIf, firstRefusal, testsOf, seen, answer, effect, next, startAnswer, startBook}
 use Rattle.book.specs.Plain.{Holding, Plain, emptyPlain, stock, plainTotal, plainAnswer, plainEffect, plainNext}
@@ -50,7 +51,7 @@ kept b l s v h = go s (accepted-tests b s h .1)
 
 -- ---- every list
 
-next-accepted : (b : Book) (s : Step) → answer b s ≡ Accepted → next b s ≡ effect b s
+pub next-accepted : (b : Book) (s : Step) → answer b s ≡ Accepted → next b s ≡ effect b s
 unfolding next
 next-accepted b s h = rw h
 
@@ -180,16 +181,16 @@ freed : (b : Book) (t : ℕ) → effect b (Finish t) .pending ≡ withBit (b .pe
 unfolding setTransfer setRecord
 freed b t = refl
 
-count-head : (t : ℕ) (ts : List ℕ) → count t (t ∷ ts) ≡ 1 + count t ts
-unfolding count
+count-head : (t : ℕ) (ts : List ℕ) → occurrences t (t ∷ ts) ≡ 1 + occurrences t ts
+unfolding occurrences
 count-head t ts = rw (eq-eqb t t refl)
 
-count-other : (s t : ℕ) (ts : List ℕ) → s ≢ t → count s (t ∷ ts) ≡ count s ts
-unfolding count
+count-other : (s t : ℕ) (ts : List ℕ) → s ≢ t → occurrences s (t ∷ ts) ≡ occurrences s ts
+unfolding occurrences
 count-other s t ts d = rw (ne-eqb s t d) (omega arith)
 
-count-nil : (t : ℕ) → count t [] ≡ 0
-unfolding count
+count-nil : (t : ℕ) → occurrences t [] ≡ 0
+unfolding occurrences
 count-nil t = refl
 
 -- the first of an order is under way, and the rest is an order of what is then left
@@ -199,7 +200,7 @@ first-pending b t ts o = omega (arith, o t, count-head t ts, bit-lt (b .pending)
 rest-once : (b : Book) (t : ℕ) (ts : List ℕ) → EachOnce b (t ∷ ts) → EachOnce (effect b (Finish t)) ts
 rest-once b t ts o s = rw (freed b t) (go (ℕ-discrete s t))
   where
-    go : Dec (s ≡ t) → count s ts ≡ bit (withBit (b .pending) t 0) s
+    go : Dec (s ≡ t) → occurrences s ts ≡ bit (withBit (b .pending) t 0) s
     go (yes e) = rw e (omega (arith, o t, count-head t ts, bit-lt (b .pending) t, bit-same (b .pending) t 0 (lit< tt)))
     go (no d) = omega (arith, o s, count-other s t ts d, bit-other (b .pending) t s 0 (lit< tt) d)
 

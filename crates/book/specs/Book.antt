@@ -9,7 +9,8 @@ use Rattle.amount.specs.Numbers.{val, limit, halves}
 use Rattle.amount.specs.Canonical.{zeros}
 use Rattle.amount.specs.declared.Amount.{Amount}
 use Rattle.registry.specs.Refusals.{zeroAmount}
-use Rattle.book.specs.Sets.{withBit, entry, sum, every}
+use Rattle.sheet.specs.Walk.{sum, every}
+use Rattle.book.specs.Sets.{withBit, entry}
 use Rattle.book.specs.declared.Name.{Name}
 use Rattle.book.specs.declared.Place.{Place}
 use Rattle.book.specs.declared.Transfer.{Transfer}
@@ -93,9 +94,9 @@ placeAt b p = entry noPlace (b .opened) (b .places) p
 unfoldable pub transferAt : Book → ℕ → Option Transfer
 transferAt b t = entry noTransfer (b .pending) (b .transfers) t
 
-abbrev pub balanceOf : Option Place → ℕ
-balanceOf none = 0
-balanceOf (some x) = credits (x .balance)
+abbrev pub heldIn : Option Place → ℕ
+heldIn none = 0
+heldIn (some x) = credits (x .balance)
 
 abbrev pub carriedBy : Option Transfer → ℕ
 carriedBy none = 0
@@ -103,7 +104,7 @@ carriedBy (some r) = credits (r .amount)
 
 -- what the total counts of a place
 abbrev pub stockOf : Option Place → ℕ
-stockOf o = balanceOf o
+stockOf o = heldIn o
 
 -- the open places' balances, and the credits under way
 unfoldable pub balances : Book → ℕ

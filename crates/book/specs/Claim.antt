@@ -6,7 +6,7 @@ use mathlib.Core.List.{List, [], _∷_, map}
 use Prim.Native.Nat.{ℕ, _+_, _<_}
 use lib.Dec.{eqb}
 use lib.ListN.{take}
-use Rattle.book.specs.Sets.{bit, count}
+use Rattle.book.specs.Sets.{bit, occurrences}
 use Rattle.book.specs.Book.{credits, nameBytes, wellFormed, placeAt, transferAt, total}
 use Rattle.book.specs.Steps.{Step, Finish, answer, next, startAnswer, startBook, issues, takes, Route, Way, Begins, Ends, Stays, way}
 use Rattle.book.specs.Plain.{Holding, Plain, emptyPlain, plainAnswer, plainNext}
@@ -84,7 +84,7 @@ cellAt b p = shown (placeAt b p)
 
 -- an order of the transfers under way, each once: t stands in it as often as the book's set has it
 abbrev pub EachOnce : Book → List ℕ → Type 0
-EachOnce b order = (t : ℕ) → count t order ≡ bit (b .pending) t
+EachOnce b order = (t : ℕ) → occurrences t order ≡ bit (b .pending) t
 
 -- ---- the claim
 

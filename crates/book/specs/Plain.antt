@@ -7,7 +7,7 @@ use Prim.Native.Nat.{ℕ, _+_, _-_}
 use lib.Dec.{eqb}
 use Rattle.sheet.specs.Fields.{Sight, subject, balance, amount}
 use Rattle.book.specs.Places.{placeView, closedView}
-use Rattle.book.specs.Sets.{sum}
+use Rattle.sheet.specs.Walk.{sum}
 use Rattle.book.specs.Book.{wholeAmount}
 use Rattle.book.specs.Steps.{Step, Open, Act, Begin, Finish, creditsIn, bytesIn, changed, Seen, testsOf, firstRefusal, after, Way, Begins, Ends, Stays, way}
 use Rattle.book.specs.declared.error.BookOutcome.{BookOutcome}

@@ -7,18 +7,18 @@ use Rattle.book.specs.declared.error.BookOutcome.{BookOutcome}
 use Rattle.book.specs.declared.error.BookOutcome.the-variants.{Accepted, Refused}
 
 -- detail: the name of the text that is too long; 0 unless named
-abbrev pub refusalOf : BookError → Answer
-refusalOf (Profile e) = profile.refusalOf e
-refusalOf UnderWay = profile.plainOf 21 0
-refusalOf OffTheBook = profile.plainOf 22 0
-refusalOf Idle = profile.plainOf 23 0
-refusalOf Itself = profile.plainOf 24 0
-refusalOf TooMuch = profile.plainOf 25 0
-refusalOf OtherUnit = profile.plainOf 26 0
-refusalOf (LongName name) = profile.plainOf 27 name
-refusalOf BadBook = profile.plainOf 28 0
+abbrev pub bookRefusalOf : BookError → Answer
+bookRefusalOf (Profile e) = profile.refusalOf e
+bookRefusalOf UnderWay = profile.numbered 21 0
+bookRefusalOf OffTheBook = profile.numbered 22 0
+bookRefusalOf Idle = profile.numbered 23 0
+bookRefusalOf Itself = profile.numbered 24 0
+bookRefusalOf TooMuch = profile.numbered 25 0
+bookRefusalOf OtherUnit = profile.numbered 26 0
+bookRefusalOf (LongName name) = profile.numbered 27 name
+bookRefusalOf BadBook = profile.numbered 28 0
 
 -- 0 is accepted; a step writes no sheet, so its length is 0
-abbrev pub answerOf : BookOutcome → Answer
-answerOf Accepted = profile.plainOf 0 0
-answerOf (Refused e) = refusalOf e
+abbrev pub bookAnswerOf : BookOutcome → Answer
+bookAnswerOf Accepted = profile.numbered 0 0
+bookAnswerOf (Refused e) = bookRefusalOf e

@@ -1,7 +1,7 @@
 // Why a step of the book refuses: a profile's refusal, or one of document 01's 21 to 28.
 ghost use mathlib.Core.Path.{_≡_};
-ghost use Rattle.registry.specs.Refusals.{plainOf};
-ghost use Rattle.book.specs.Refusals.{refusalOf, answerOf};
+ghost use Rattle.registry.specs.Refusals.{numbered};
+ghost use Rattle.book.specs.Refusals.{bookRefusalOf, bookAnswerOf};
 use amount::Amount;
 use registry::error;
 use registry::error::Answer;
@@ -44,7 +44,7 @@ pub enum BookOutcome {
 
 // An answer with no amounts: nothing is short, and a step writes no sheet.
 fn plain(number: u8, detail: u8) -> Answer
-    ensures { λ r. ⌜ r ≡ plainOf number detail ⌝ }
+    ensures { λ r. ⌜ r ≡ numbered number detail ⌝ }
 {
     Answer {
         number,
@@ -56,8 +56,8 @@ fn plain(number: u8, detail: u8) -> Answer
 }
 
 // The number, detail and amounts of a refusal.
-pub fn refusal(e: BookError) -> Answer
-    ensures { λ r. ⌜ r ≡ refusalOf e ⌝ }
+fn refusal(e: BookError) -> Answer
+    ensures { λ r. ⌜ r ≡ bookRefusalOf e ⌝ }
 {
     match e {
         BookError::Profile(p) => error::refusal(p),
@@ -74,7 +74,7 @@ pub fn refusal(e: BookError) -> Answer
 
 // The answer of a step.
 pub fn answer_of(o: BookOutcome) -> Answer
-    ensures { λ r. ⌜ r ≡ answerOf o ⌝ }
+    ensures { λ r. ⌜ r ≡ bookAnswerOf o ⌝ }
 {
     match o {
         BookOutcome::Accepted => plain(0, 0),

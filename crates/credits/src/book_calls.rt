@@ -1,6 +1,6 @@
 // The book behind C: a book is lent and one step is done in it. Each entry is one call of `lent`, and its proof is tools/hand_on's.
 ghost use mathlib.Core.Path.{_≡_};
-ghost use Rattle.book.specs.Refusals.{answerOf};
+ghost use Rattle.book.specs.Refusals.{bookAnswerOf};
 ghost use Rattle.book.specs.Steps.{Open, Act, Begin, Finish, answer, next, startAnswer, startBook};
 use book::Book;
 use registry::error::Answer;
@@ -15,7 +15,7 @@ pub struct Started {
 // A refused start gives a book of zeros.
 #[no_mangle]
 pub extern "C" fn credits_book_start(unit: &[u8]) -> Started
-    ensures { λ r. ⌜ r ≡ record { answer = answerOf (startAnswer (now (unit .entry))); book = startBook (now (unit .entry)) } ⌝ }
+    ensures { λ r. ⌜ r ≡ record { answer = bookAnswerOf (startAnswer (now (unit .entry))); book = startBook (now (unit .entry)) } ⌝ }
 {
     Started {
         answer: steps::start_answer(unit),
@@ -33,7 +33,7 @@ pub extern "C" fn credits_book_size() -> u32
 
 #[no_mangle]
 pub extern "C" fn credits_book_open(book: &mut Book, place: u8, sheet: &[u8]) -> Answer
-    ensures { λ r. ⌜ (r ≡ answerOf (answer (now (book .entry)) (Open place (now (sheet .entry)))))
+    ensures { λ r. ⌜ (r ≡ bookAnswerOf (answer (now (book .entry)) (Open place (now (sheet .entry)))))
         × (now (book .exit) ≡ next (now (book .entry)) (Open place (now (sheet .entry)))) ⌝ }
 {
     lent::step_in(book, Step::Open(place), sheet)
@@ -46,7 +46,7 @@ pub extern "C" fn credits_book_act(
     operation: u8,
     sheet: &[u8],
 ) -> Answer
-    ensures { λ r. ⌜ (r ≡ answerOf (answer (now (book .entry)) (Act place operation (now (sheet .entry)))))
+    ensures { λ r. ⌜ (r ≡ bookAnswerOf (answer (now (book .entry)) (Act place operation (now (sheet .entry)))))
         × (now (book .exit) ≡ next (now (book .entry)) (Act place operation (now (sheet .entry)))) ⌝ }
 {
     lent::step_in(book, Step::Act(place, operation), sheet)
@@ -60,7 +60,7 @@ pub extern "C" fn credits_book_begin(
     transfer: u8,
     sheet: &[u8],
 ) -> Answer
-    ensures { λ r. ⌜ (r ≡ answerOf (answer (now (book .entry)) (Begin from to transfer (now (sheet .entry)))))
+    ensures { λ r. ⌜ (r ≡ bookAnswerOf (answer (now (book .entry)) (Begin from to transfer (now (sheet .entry)))))
         × (now (book .exit) ≡ next (now (book .entry)) (Begin from to transfer (now (sheet .entry)))) ⌝ }
 {
     lent::step_in(book, Step::Begin(from, to, transfer), sheet)
@@ -68,7 +68,7 @@ pub extern "C" fn credits_book_begin(
 
 #[no_mangle]
 pub extern "C" fn credits_book_finish(book: &mut Book, transfer: u8) -> Answer
-    ensures { λ r. ⌜ (r ≡ answerOf (answer (now (book .entry)) (Finish transfer)))
+    ensures { λ r. ⌜ (r ≡ bookAnswerOf (answer (now (book .entry)) (Finish transfer)))
         × (now (book .exit) ≡ next (now (book .entry)) (Finish transfer)) ⌝ }
 {
     lent::free_in(book, Step::Finish(transfer))

@@ -20,7 +20,7 @@ use denote.Ref.{RefT, MutRef}
 use denote.Steps.{nothing}
 use denote.Triple.Statement.{Contract, Triple}
 use denote.Triple.Spec.{tripleOf}
-use Rattle.book.specs.Refusals.{answerOf}
+use Rattle.book.specs.Refusals.{bookAnswerOf}
 use Rattle.book.specs.Steps.{answer, next}
 use Rattle.book.specs.declared.Book.{Book}
 use Rattle.registry.specs.declared.error.Answer.{Answer}
@@ -46,7 +46,7 @@ module _ {M : Type 1} {𝓤 : URA M} {H : Heap 𝓤} {A : Atoms 𝓤} (W : Given
   Book-own = MutRef (named 0) κ T.the-row .own lent (vptr b o ∷ [])
 
   abbrev pub Met : Answer → Book → Type 0
-  Met z w = (z ≡ answerOf (answer h (withSheet st []))) × (w ≡ next h (withSheet st []))
+  Met z w = (z ≡ bookAnswerOf (answer h (withSheet st []))) × (w ≡ next h (withSheet st []))
 
   abbrev pub to : Steps 𝓤 H A at-mem run .Ghost
   to = (((κ, tt), (q, tt), tt, (lent, (st, tt)), (vptr b o ∷ [], (step-kind W .val st ∷ [], tt))), tt)

@@ -23,7 +23,7 @@ use denote.Builtin.{u8}
 use denote.Steps.{nothing}
 use denote.Triple.Statement.{Contract, Triple}
 use denote.Triple.Spec.{tripleOf}
-use Rattle.book.specs.Refusals.{answerOf}
+use Rattle.book.specs.Refusals.{bookAnswerOf}
 use Rattle.book.specs.Steps.{answer, next}
 use Rattle.book.specs.declared.Book.{Book}
 use Rattle.registry.specs.declared.error.Answer.{Answer}
@@ -55,7 +55,7 @@ module _ {M : Type 1} {𝓤 : URA M} {H : Heap 𝓤} {A : Atoms 𝓤} (W : Given
   Book-own = MutRef (named 0) κ T.the-row .own lent (vptr b o ∷ [])
 
   abbrev pub Met : Answer → Book → Type 0
-  Met z w = (z ≡ answerOf (answer h (withSheet st (s .now)))) × (w ≡ next h (withSheet st (s .now)))
+  Met z w = (z ≡ bookAnswerOf (answer h (withSheet st (s .now)))) × (w ≡ next h (withSheet st (s .now)))
 
   abbrev pub to : Steps 𝓤 H A at-mem run .Ghost
   to = (((κ, (κ′, tt)), (q, (q′, tt)), tt, (lent, (st, (s, tt))), (vptr b o ∷ [], (step-kind W .val st ∷ [], (u ∷ [], tt)))), tt)

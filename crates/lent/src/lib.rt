@@ -2,7 +2,7 @@
 // stored, where it lies. A refused step stores what it read, and so leaves the book as it was.
 ghost use mathlib.Core.Path.{_≡_};
 ghost use mathlib.Core.List.{[]};
-ghost use Rattle.book.specs.Refusals.{answerOf};
+ghost use Rattle.book.specs.Refusals.{bookAnswerOf};
 ghost use Rattle.book.specs.Steps.{answer, next};
 ghost use Rattle.steps.specs.Turn.{withSheet};
 use book::Book;
@@ -12,7 +12,7 @@ use steps::View;
 
 // `total_of` has this one caller, and so is inlined: with two a step costs 155 instructions and 1 KB of stack more.
 pub fn step_in(book: &mut Book, step: Step, sheet: &[u8]) -> Answer
-    ensures { λ r. ⌜ (r ≡ answerOf (answer (now (book .entry)) (withSheet step (now (sheet .entry)))))
+    ensures { λ r. ⌜ (r ≡ bookAnswerOf (answer (now (book .entry)) (withSheet step (now (sheet .entry)))))
         × (now (book .exit) ≡ next (now (book .entry)) (withSheet step (now (sheet .entry)))) ⌝ }
 {
     let total = audit::total_of(*book);
@@ -48,7 +48,7 @@ pub fn step_in(book: &mut Book, step: Step, sheet: &[u8]) -> Answer
 
 // The same of a step that has no sheet.
 pub fn free_in(book: &mut Book, step: Step) -> Answer
-    ensures { λ r. ⌜ (r ≡ answerOf (answer (now (book .entry)) (withSheet step [])))
+    ensures { λ r. ⌜ (r ≡ bookAnswerOf (answer (now (book .entry)) (withSheet step [])))
         × (now (book .exit) ≡ next (now (book .entry)) (withSheet step [])) ⌝ }
 {
     step_in(book, step, b"")

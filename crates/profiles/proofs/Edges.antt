@@ -15,12 +15,12 @@ use Rattle.amount.specs.declared.Amount.{Amount}
 use Rattle.amount.specs.declared.Given.{Given}
 use Rattle.amount.specs.declared.uint128.Ordering.{Ordering}
 use Rattle.amount.specs.declared.uint128.Ordering.the-variants.{Equal}
-use Rattle.sheet.specs.Walk.{allTo, sumTo, prior}
-use Rattle.sheet.specs.Sheet.{entryAt, soundAs, entriesFrom, lookup}
+use Rattle.sheet.specs.Walk.{every, sum, prior}
+use Rattle.sheet.specs.Sheet.{entryAt, isField, isForm, soundAs, entriesFrom, lookup}
 use Rattle.sheet.specs.Amounts.{amountAt}
 use Rattle.writer.specs.Encode.{encode, item, stackSheet, balanceSheet, meterSheet}
 use Rattle.sheet.specs.Fields.{field, subject, quantity, remaining, maximum, amount}
-use Rattle.registry.specs.Refusals.{plainOf, answerOf}
+use Rattle.registry.specs.Refusals.{numbered, answerOf}
 use Rattle.registry.specs.Readers.{textIn, marked, parsed, amountBy, amountOf}
 use Rattle.registry.specs.Tests.{aboveZero, heldBy, upTo, stateThere, stateAbsent}
 use Rattle.registry.specs.Call.{operationOf, called}
@@ -45,11 +45,11 @@ pub data Answer : Type 0 where
   says : Check.Answer → Answer
 
 abbrev pub answer : Case → Answer
-answer (reading s) = gives (Amounts.answerOf (readOf s))
+answer (reading s) = gives (Amounts.givenOf (readOf s))
 answer (printing a) = text (canonicalText a)
 answer (comparing a b) = stands (compareOf a b)
-answer (adding a b) = gives (Amounts.answerOf (sumOf a b))
-answer (subtracting a b) = gives (Amounts.answerOf (differenceOf a b))
+answer (adding a b) = gives (Amounts.givenOf (sumOf a b))
+answer (subtracting a b) = gives (Amounts.givenOf (differenceOf a b))
 answer (checking profile operation s i) = says (answerOf (checkOf profile operation s i))
 
 -- the bytes of a text of two characters or more
@@ -62,7 +62,7 @@ abbrev pub at : ℕ → ℕ → Amount
 at m s = record { mantissa = halves m; scale = s }
 
 abbrev pub ok : ℕ → ℕ → Answer
-ok m s = gives (record { number = 0; amount = at m s })
+ok m s = gives (record { number = 0; detail = 0; amount = at m s })
 
 abbrev pub refused : ℕ → Answer
 refused number = gives (refusedOf number)
@@ -91,21 +91,21 @@ table =
     ∷ (reading (bytes "0000000000000000000000000000000000000001"), refused 10)
     ∷ (reading (bytes "340282366920938463463374607431768211455"), ok (2 ^ 128 - 1) 0)
     ∷ (reading (bytes "340282366920938463463374607431768211456"), refused 10)
-    ∷ (checking 2 13 balance (one amount (bytes "1e3")), says (plainOf 11 amount))
+    ∷ (checking 2 13 balance (one amount (bytes "1e3")), says (numbered 11 amount))
     ∷ (printing (at 1200 3), text (bytes "1.2"))
     ∷ (printing (at 5 3), text (bytes "0.005"))
     ∷ (printing (at 0 255), text (code "0" ∷ []))
     ∷ (comparing (at 10 1) (at 1 0), stands Equal)
     ∷ (adding (at (2 ^ 128 - 1) 0) (at 0 1), refused 17)
     ∷ (subtracting (at 15 1) (at 1 0), ok 5 1)
-    ∷ (checking 1 2 stack (one quantity (code "0" ∷ [])), says (plainOf 0 0))
-    ∷ (checking 2 13 balance (one amount (code "0" ∷ [])), says (plainOf 14 0))
-    ∷ (checking 3 21 [] (metered (code "5" ∷ []) (code "5" ∷ [])), says (plainOf 0 0))
-    ∷ (checking 3 21 [] (metered (code "6" ∷ []) (code "5" ∷ [])), says (plainOf 16 0))
-    ∷ (checking 2 14 balance (one amount (bytes "0000000000000000000000000000000000000000000000001.")), says (plainOf 11 amount))
-    ∷ (checking 1 2 meter (one quantity (code "1" ∷ [])), says (plainOf 0 0))
+    ∷ (checking 1 2 stack (one quantity (code "0" ∷ [])), says (numbered 0 0))
+    ∷ (checking 2 13 balance (one amount (code "0" ∷ [])), says (numbered 14 0))
+    ∷ (checking 3 21 [] (metered (code "5" ∷ []) (code "5" ∷ [])), says (numbered 0 0))
+    ∷ (checking 3 21 [] (metered (code "6" ∷ []) (code "5" ∷ [])), says (numbered 16 0))
+    ∷ (checking 2 14 balance (one amount (bytes "0000000000000000000000000000000000000000000000001.")), says (numbered 11 amount))
+    ∷ (checking 1 2 meter (one quantity (code "1" ∷ [])), says (numbered 0 0))
     ∷ []
 
 pub edges : map (λ r. answer (r .0)) table ≡ map (λ r. r .1) table
-unfolding table readOf amountIf allDigits digitsAfter decimal limit halves val strip lastDigits widthUpTo widthOf wholeText decimalText canonicalText compareOf orderOf sumOf mantissaAt differenceOf allTo sumTo prior entryAt soundAs entriesFrom lookup amountAt encode stackSheet balanceSheet meterSheet field textIn marked parsed amountBy amountOf aboveZero heldBy upTo stateThere stateAbsent stackRules balanceRules meterRules operationOf called checkOf
+unfolding table readOf amountIf allDigits digitsAfter decimal limit halves val strip lastDigits widthUpTo widthOf wholeText decimalText canonicalText compareOf orderOf sumOf mantissaAt differenceOf every sum prior entryAt isField isForm soundAs entriesFrom lookup amountAt encode stackSheet balanceSheet meterSheet field textIn marked parsed amountBy amountOf aboveZero heldBy upTo stateThere stateAbsent stackRules balanceRules meterRules operationOf called checkOf
 edges = refl

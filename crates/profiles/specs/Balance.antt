@@ -2,7 +2,7 @@
 use mathlib.Core.List.{List, [], _∷_}
 use Prim.Native.Nat.{ℕ}
 use Rattle.sheet.specs.Fields.{Field, Sight, balance, amount, to-subject, to-unit, authorized-by}
-use Rattle.registry.specs.Tests.{Test, born, in-text, in-amount, st-amount, positive, takes, creates, Row, row, ruled}
+use Rattle.registry.specs.Tests.{Test, born, in-text, in-amount, st-amount, positive, drawsOn, creates, Row, row, ruled}
 use Rattle.registry.specs.declared.error.Outcome.{Outcome}
 use Rattle.registry.specs.declared.error.Reading.{Reading}
 
@@ -12,7 +12,7 @@ credited = in-amount amount ∷ st-amount balance ∷ positive amount ∷ []
 
 -- st balance, in amount, 14, 15
 abbrev pub debited : List Test
-debited = takes balance amount
+debited = drawsOn balance amount
 
 -- 11 create; 12 mint; 13 credit and 17 release; 14 debit, 16 reserve and 18 spend; 15 transfer; 19 burn; 20 convert
 abbrev pub balanceRows : List Row

@@ -2,7 +2,7 @@
 use mathlib.Core.List.{List, [], _∷_}
 use Prim.Native.Nat.{ℕ}
 use Rattle.sheet.specs.Fields.{Field, Sight, subject, remaining, maximum, amount}
-use Rattle.registry.specs.Tests.{unborn, born, in-text, in-amount, st-amount, up-to-maximum, takes, Row, row, ruled}
+use Rattle.registry.specs.Tests.{unborn, born, in-text, in-amount, st-amount, up-to-maximum, drawsOn, Row, row, ruled}
 use Rattle.registry.specs.declared.error.Outcome.{Outcome}
 use Rattle.registry.specs.declared.error.Reading.{Reading}
 
@@ -10,7 +10,7 @@ use Rattle.registry.specs.declared.error.Reading.{Reading}
 abbrev pub meterRows : List Row
 meterRows =
     row (21 ∷ []) (unborn ∷ in-text subject ∷ in-amount remaining ∷ in-amount maximum ∷ up-to-maximum remaining maximum ∷ [])
-    ∷ row (22 ∷ []) (born ∷ takes remaining amount)
+    ∷ row (22 ∷ []) (born ∷ drawsOn remaining amount)
     ∷ row (23 ∷ []) (born ∷ st-amount remaining ∷ st-amount maximum ∷ [])
     ∷ row (24 ∷ []) (born ∷ in-amount maximum ∷ [])
     ∷ row (25 ∷ 26 ∷ []) (born ∷ [])

@@ -2,7 +2,7 @@
 use mathlib.Core.List.{List, [], _∷_}
 use Prim.Native.Nat.{ℕ}
 use Rattle.sheet.specs.Fields.{Field, Sight, quantity, to-subject}
-use Rattle.registry.specs.Tests.{born, in-text, in-amount, positive, takes, creates, Row, row, ruled}
+use Rattle.registry.specs.Tests.{born, in-text, in-amount, positive, drawsOn, creates, Row, row, ruled}
 use Rattle.registry.specs.declared.error.Outcome.{Outcome}
 use Rattle.registry.specs.declared.error.Reading.{Reading}
 
@@ -13,8 +13,8 @@ stackRows =
     ∷ row (2 ∷ 9 ∷ []) (born ∷ in-amount quantity ∷ [])
     ∷ row (7 ∷ []) (born ∷ in-amount quantity ∷ positive quantity ∷ [])
     ∷ row (8 ∷ []) (born ∷ [])
-    ∷ row (3 ∷ 4 ∷ 6 ∷ []) (born ∷ takes quantity quantity)
-    ∷ row (5 ∷ []) (born ∷ in-text to-subject ∷ takes quantity quantity)
+    ∷ row (3 ∷ 4 ∷ 6 ∷ []) (born ∷ drawsOn quantity quantity)
+    ∷ row (5 ∷ []) (born ∷ in-text to-subject ∷ drawsOn quantity quantity)
     ∷ []
 
 unfoldable pub stackRules : (ℕ → Field → Reading) → Sight → (ℕ → Field) → ℕ → Outcome

@@ -6,7 +6,7 @@ ghost use lib.Dec.{eqb};
 ghost use lib.ListN.{length};
 ghost use Rattle.sheet.specs.Fields.{field, sightOf, quantity, to-subject};
 ghost use Rattle.registry.specs.Readers.{amountIn, amountOf};
-ghost use Rattle.registry.specs.Tests.{firstOf, stateThere, born, in-text, in-amount, positive, takes, creates};
+ghost use Rattle.registry.specs.Tests.{firstOf, stateThere, born, in-text, in-amount, positive, drawsOn, creates};
 ghost use Rattle.profiles.specs.Stack.{stackRules};
 use registry::error::Outcome;
 use registry::error::ProfileError;
@@ -27,25 +27,25 @@ fn check_credit(state: &[u8], input: &[u8]) -> Outcome
 }
 
 fn check_debit(state: &[u8], input: &[u8]) -> Outcome
-    ensures { λ r. ⌜ r ≡ firstOf (now (state .entry)) (now (input .entry)) (born ∷ takes quantity quantity) ⌝ }
+    ensures { λ r. ⌜ r ≡ firstOf (now (state .entry)) (now (input .entry)) (born ∷ drawsOn quantity quantity) ⌝ }
 {
     registry::check_taking(state, input, current_quantity(state), QUANTITY)
 }
 
 fn check_consume(state: &[u8], input: &[u8]) -> Outcome
-    ensures { λ r. ⌜ r ≡ firstOf (now (state .entry)) (now (input .entry)) (born ∷ takes quantity quantity) ⌝ }
+    ensures { λ r. ⌜ r ≡ firstOf (now (state .entry)) (now (input .entry)) (born ∷ drawsOn quantity quantity) ⌝ }
 {
     check_debit(state, input)
 }
 
 fn check_transfer(state: &[u8], input: &[u8]) -> Outcome
-    ensures { λ r. ⌜ r ≡ firstOf (now (state .entry)) (now (input .entry)) (born ∷ in-text to-subject ∷ takes quantity quantity) ⌝ }
+    ensures { λ r. ⌜ r ≡ firstOf (now (state .entry)) (now (input .entry)) (born ∷ in-text to-subject ∷ drawsOn quantity quantity) ⌝ }
 {
     registry::check_taking_with(state, input, TO_SUBJECT, current_quantity(state), QUANTITY)
 }
 
 fn check_reserve(state: &[u8], input: &[u8]) -> Outcome
-    ensures { λ r. ⌜ r ≡ firstOf (now (state .entry)) (now (input .entry)) (born ∷ takes quantity quantity) ⌝ }
+    ensures { λ r. ⌜ r ≡ firstOf (now (state .entry)) (now (input .entry)) (born ∷ drawsOn quantity quantity) ⌝ }
 {
     check_debit(state, input)
 }

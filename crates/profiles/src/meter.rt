@@ -7,7 +7,7 @@ ghost use lib.Dec.{eqb};
 ghost use lib.ListN.{length};
 ghost use Rattle.sheet.specs.Fields.{field, sightOf, subject, remaining, maximum, amount};
 ghost use Rattle.registry.specs.Readers.{amountIn, amountOf};
-ghost use Rattle.registry.specs.Tests.{firstOf, stateThere, unborn, born, in-text, in-amount, st-amount, up-to-maximum, takes};
+ghost use Rattle.registry.specs.Tests.{firstOf, stateThere, unborn, born, in-text, in-amount, st-amount, up-to-maximum, drawsOn};
 ghost use Rattle.profiles.specs.Meter.{meterRules};
 use registry::error::Outcome;
 use registry::error::ProfileError;
@@ -38,7 +38,7 @@ fn check_create(state: &[u8], input: &[u8]) -> Outcome
 }
 
 fn check_consume(state: &[u8], input: &[u8]) -> Outcome
-    ensures { λ r. ⌜ r ≡ firstOf (now (state .entry)) (now (input .entry)) (born ∷ takes remaining amount) ⌝ }
+    ensures { λ r. ⌜ r ≡ firstOf (now (state .entry)) (now (input .entry)) (born ∷ drawsOn remaining amount) ⌝ }
 {
     registry::check_taking(state, input, current_remaining(state), AMOUNT)
 }

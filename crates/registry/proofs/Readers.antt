@@ -16,7 +16,8 @@ use Rattle.amount.specs.declared.AmountResult.the-variants as Read
 use Rattle.amount.proofs.Reading.{read-not-digits}
 use Rattle.sheet.specs.Amounts.{amountAt}
 use Rattle.sheet.specs.Fields.{Field, absent, text, whole, other, fieldOfKind}
-use Rattle.registry.specs.Readers.{marked, isMark, textIn, textOf, bytesOf, givenOr, parsed, readIn, faultIn, amountBy, amountIn, amountOf}
+use Rattle.registry.specs.Readers.{marked, isMark, textIn, textOf, bytesOf, givenOr, parsed, amountBy, amountIn, amountOf}
+use Rattle.registry.specs.Helpers.{readIn, faultIn}
 use Rattle.registry.specs.declared.error.ProfileError.the-variants.{NotText, NotWhole, FloatForbidden, NoField}
 use Rattle.registry.specs.declared.error.Outcome.the-variants.{Refused}
 use Rattle.registry.specs.declared.error.Reading.the-variants.{Given, Failed}

@@ -17,8 +17,9 @@ use Rattle.sheet.specs.declared.Found.{Found}
 use Rattle.sheet.specs.declared.Verdict.{Verdict}
 use Rattle.sheet.specs.declared.Verdict.the-variants as Verdict
 use Rattle.sheet.specs.declared.Shape.the-variants.{Input}
-use Rattle.registry.specs.Readers.{textIn, marked, givenOr, readIn, faultIn, amountIn}
-use Rattle.registry.specs.Refusals.{plainOf, refusalOf}
+use Rattle.registry.specs.Readers.{textIn, marked, givenOr, amountIn}
+use Rattle.registry.specs.Helpers.{readIn, faultIn}
+use Rattle.registry.specs.Refusals.{numbered, refusalOf, answerOf}
 use Rattle.registry.specs.Call.{inputSound}
 use Rattle.registry.specs.Asked.{isSound, askedBy, askedIn, textNumber}
 use Rattle.registry.specs.declared.asked.Asked.{Asked}
@@ -53,9 +54,17 @@ refusal-positive Underflow = omega arith
 refusal-positive NoCredit = omega arith
 refusal-positive Narrow = omega arith
 
+-- a number is 0 exactly where the outcome is accepted
+pub zero-is-accepted : (o : Outcome) → answerOf o .number ≡ 0 → o ≡ Accepted
+zero-is-accepted Accepted h = refl
+zero-is-accepted (Refused e) h = absurd (omega (arith, h, refusal-positive e))
+
+pub accepted-is-zero : (o : Outcome) → o ≡ Accepted → answerOf o .number ≡ 0
+accepted-is-zero o h = rw h
+
 -- why a field is not read: a refusal of this number and detail, which is not 15 and speaks of no amounts
 pub record Lacks (e : ProfileError) (number detail : ℕ) : Type 0 where
-  pub plain : refusalOf e ≡ plainOf number detail
+  pub plain : refusalOf e ≡ numbered number detail
   pub low : number < 15
 
 -- ---- 2

@@ -4,3 +4,4 @@ pub mod Readers
 pub mod Tests
 pub mod Call
 pub mod Asked
+pub mod Helpers

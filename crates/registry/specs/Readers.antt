@@ -67,19 +67,6 @@ amountBy parse n other = Failed (NotWhole n)
 abbrev pub amountIn : ℕ → Field → Reading
 amountIn = amountBy parsed
 
--- the same in the code's order: the number that a field's text stands for, and only where there is none, why
-unfoldable pub readIn : Field → AmountResult
-readIn absent = Read.NotWhole
-readIn (text t) = readOf t
-readIn (whole a) = Read.NotWhole
-readIn other = Read.NotWhole
-
-unfoldable pub faultIn : ℕ → Field → ProfileError
-faultIn n absent = Missing n
-faultIn n (text t) = cond (marked t) (FloatForbidden n) (NotWhole n)
-faultIn n (whole a) = NotWhole n
-faultIn n other = NotWhole n
-
 -- a state's amount: 12 no field
 unfoldable pub amountOf : ℕ → Field → Reading
 amountOf n absent = Failed (NoField n)
@@ -92,10 +79,10 @@ abbrev pub readable : Reading → Outcome
 readable (Given a) = Accepted
 readable (Failed e) = Refused e
 
--- a test of an amount that an earlier test found readable
+-- a test of an amount that was read; where none was, why
 abbrev pub onAmount : Reading → (Amount → Outcome) → Outcome
 onAmount (Given a) f = f a
-onAmount (Failed e) f = Accepted
+onAmount (Failed e) f = Refused e
 
 -- the amount that was read; zero where none was
 abbrev pub readAmount : Reading → Amount

@@ -64,8 +64,8 @@ pub data Test : Type 0 where
   positive : (name : ℕ) → Test
   available : (held asked : ℕ) → Test
   up-to-maximum : (name maximum : ℕ) → Test
-  adds : (held asked : ℕ) → Test
-  subtracts : (held asked : ℕ) → Test
+  can-add : (held asked : ℕ) → Test
+  can-subtract : (held asked : ℕ) → Test
 
 -- some operations, and their tests
 pub record Row : Type 0 where
@@ -95,8 +95,8 @@ module _ (read : ℕ → Field → Reading) (st : Sight) (inp : ℕ → Field) w
   meets (positive n) = onAmount (read n (inp n)) aboveZero
   meets (available held asked) = onBoth held asked heldBy
   meets (up-to-maximum n m) = onAmount (read n (inp n)) (λ a. onAmount (read m (inp m)) (upTo a))
-  meets (adds held asked) = onBoth held asked (λ h a. readable (plus h a))
-  meets (subtracts held asked) = onBoth held asked (λ h a. readable (less h a))
+  meets (can-add held asked) = onBoth held asked (λ h a. readable (plus h a))
+  meets (can-subtract held asked) = onBoth held asked (λ h a. readable (less h a))
 
   -- the first test that is not passed is the answer
   abbrev pub first : List Test → Outcome
@@ -113,17 +113,9 @@ abbrev pub firstOf : List ℕ → List ℕ → List Test → Outcome
 firstOf s i = first amountIn (sightOf s) (field i)
 
 -- what all that take from an amount have in common: st held, in asked, 14, 15
-abbrev pub takes : ℕ → ℕ → List Test
-takes held asked = st-amount held ∷ in-amount asked ∷ positive asked ∷ available held asked ∷ []
-
--- the same of two readings, of what is held and of what is asked
-abbrev pub taking : Reading → Reading → Outcome
-taking held asked = readable held then readable asked then onAmount asked aboveZero then onAmount held (λ h. onAmount asked (heldBy h)) then Accepted
+abbrev pub drawsOn : ℕ → ℕ → List Test
+drawsOn held asked = st-amount held ∷ in-amount asked ∷ positive asked ∷ available held asked ∷ []
 
 -- unborn, in subject, in unit, then in quantity or balance
 abbrev pub creates : ℕ → List Test
 creates name = unborn ∷ in-text subject ∷ in-text unit ∷ in-amount name ∷ []
-
--- in asked, 14, 15, against an amount that is held
-abbrev pub asking : Amount → ℕ → Field → Outcome
-asking held n f = readable (amountIn n f) then onAmount (amountIn n f) aboveZero then onAmount (amountIn n f) (heldBy held)

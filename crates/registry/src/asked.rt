@@ -5,7 +5,7 @@ ghost use Prim.Native.Nat.{ℕ};
 ghost use Rattle.sheet.specs.Fields.{field, fieldOf};
 ghost use Rattle.sheet.specs.declared.Found.the-variants.{At};
 ghost use Rattle.sheet.specs.declared.Shape.the-variants.{Input};
-ghost use Rattle.registry.specs.Readers.{faultIn};
+ghost use Rattle.registry.specs.Helpers.{faultIn};
 ghost use Rattle.registry.specs.Refusals.{refusalOf};
 ghost use Rattle.registry.specs.Asked.{isSound, askedIn, textNumber};
 use super::error;

@@ -9,8 +9,10 @@ ghost use Rattle.sheet.specs.Fields.{field, fieldOf};
 ghost use Rattle.sheet.specs.Sheet.{stateOf, verdictOf};
 ghost use Rattle.sheet.specs.declared.Found.the-variants.{At};
 ghost use Rattle.sheet.specs.declared.Shape.the-variants.{Input};
-ghost use Rattle.registry.specs.Readers.{textIn, textOf, bytesOf, marked, givenOr, readIn, faultIn, amountIn, amountOf};
-ghost use Rattle.registry.specs.Tests.{stateThere, stateAbsent, aboveZero, unlessLess, heldBy, upTo, asking, taking, firstOf, creates, born, in-amount, _then_};
+ghost use Rattle.registry.specs.Readers.{textIn, textOf, bytesOf, marked, givenOr, amountIn, amountOf};
+ghost use Rattle.registry.specs.Helpers.{readIn, faultIn, taking};
+ghost use Rattle.registry.specs.Tests.{stateThere, stateAbsent, aboveZero, unlessLess, heldBy, upTo, firstOf, creates, born, in-amount, _then_};
+ghost use Rattle.registry.specs.declared.error.Reading.the-variants.{Given};
 ghost use Rattle.registry.specs.Call.{stateSound, inputSound, profileOf, operationOf, called};
 
 pub mod asked;
@@ -26,7 +28,7 @@ use sheet::Entry;
 use sheet::Found;
 
 // The profile that an operation is of; 0 for none.
-pub fn profile_of(operation: u8) -> u8
+fn profile_of(operation: u8) -> u8
     ensures { λ r. ⌜ r ≡ profileOf operation ⌝ }
 {
     let op = operation;
@@ -39,7 +41,7 @@ pub fn profile_of(operation: u8) -> u8
 }
 
 // 3, then 4.
-pub fn require_operation(profile: u8, operation: u8) -> Outcome
+fn require_operation(profile: u8, operation: u8) -> Outcome
     ensures { λ r. ⌜ r ≡ operationOf profile operation ⌝ }
 {
     if profile < 1 {
@@ -189,7 +191,7 @@ pub fn given_or(o: AmountResult, e: ProfileError) -> Reading
 }
 
 // The value of an entry as an amount: a text of digits.
-pub fn parse_amount_str(input: &[u8], e: Entry) -> AmountResult
+pub(crate) fn parse_amount_str(input: &[u8], e: Entry) -> AmountResult
     ensures { λ r. ⌜ r ≡ readIn (fieldOf (now (input .entry)) (At e)) ⌝ }
 {
     if e.kind != sheet::KIND_TEXT {
@@ -259,7 +261,7 @@ fn unless_less(o: Ordering, e: ProfileError) -> Outcome
 }
 
 // 15.
-pub fn require_available(requested: Amount, available: Amount) -> Outcome
+fn require_available(requested: Amount, available: Amount) -> Outcome
     ensures { λ r. ⌜ r ≡ heldBy available requested ⌝ }
 {
     let short = ProfileError::InsufficientQuantity {
@@ -270,7 +272,7 @@ pub fn require_available(requested: Amount, available: Amount) -> Outcome
 }
 
 // 14, then 15.
-pub fn require_positive_available(requested: Amount, available: Amount) -> Outcome
+fn require_positive_available(requested: Amount, available: Amount) -> Outcome
     ensures { λ r. ⌜ r ≡ (aboveZero requested then heldBy available requested) ⌝ }
 {
     if let Outcome::Refused(e) = require_positive(requested) {
@@ -287,8 +289,8 @@ pub fn require_up_to(amount: Amount, maximum: Amount) -> Outcome
 }
 
 // In asked, 14, 15, against what is held.
-pub fn require_asked(input: &[u8], available: Amount, asked: u8) -> Outcome
-    ensures { λ r. ⌜ r ≡ asking available asked (field (now (input .entry)) asked) ⌝ }
+fn require_asked(input: &[u8], available: Amount, asked: u8) -> Outcome
+    ensures { λ r. ⌜ r ≡ taking (Given available) (amountIn asked (field (now (input .entry)) asked)) ⌝ }
 {
     let requested = match input_amount(input, asked) {
         Reading::Given(a) => a,

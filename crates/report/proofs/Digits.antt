@@ -9,12 +9,13 @@ use lib.Count.{ones, ones-step, ones-le}
 use lib.ListN.{take}
 use lib.Seq.{take-append-seam}
 use Rattle.amount.specs.Numbers.{val, halves}
-use Rattle.amount.specs.Canonical.{wholeText, widthOf, widthUpTo, lastDigits, strip, decimalText, canonicalText, textOf}
+use Rattle.amount.specs.Canonical.{wholeText, widthOf, widthUpTo, lastDigits, strip, decimalText, canonicalText, asText}
 use Rattle.amount.specs.declared.Amount.{Amount}
 use Rattle.amount.specs.declared.text.Text.{Text}
 use Rattle.amount.proofs.Cutting.{whole-length}
 use Rattle.amount.proofs.Assembling.{width-few}
-use Rattle.book.specs.Sets.{bit, sum}
+use Rattle.sheet.specs.Walk.{sum}
+use Rattle.book.specs.Sets.{bit}
 use Rattle.report.specs.Listing.{members}
 
 -- ---- numbers below 1000
@@ -35,12 +36,12 @@ three-digits n g h =
 
 -- ---- the text of an amount
 
-pub few-bytes : (a : Amount) (t : Text) → a .scale ≡ 0 → t ≡ textOf (canonicalText a) → t .len ≤ 39
-unfolding textOf canonicalText strip decimalText
+pub few-bytes : (a : Amount) (t : Text) → a .scale ≡ 0 → t ≡ asText (canonicalText a) → t .len ≤ 39
+unfolding asText canonicalText strip decimalText
 few-bytes a t z e = rw (e, z) (omega (arith, whole-length (val (halves (val (a .mantissa)))), width-few (val (halves (val (a .mantissa))))))
 
-pub first-bytes : (l : List ℕ) (t : Text) → t ≡ textOf l → take (t .len) (t .bytes) ≡ l
-unfolding textOf
+pub first-bytes : (l : List ℕ) (t : Text) → t ≡ asText l → take (t .len) (t .bytes) ≡ l
+unfolding asText
 first-bytes l t e = rw e (take-append-seam l _)
 
 -- ---- the size of a set

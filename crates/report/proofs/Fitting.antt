@@ -18,8 +18,8 @@ use Rattle.session.specs.declared.Run.{Run}
 use Rattle.session.proofs.Walking.{good-count}
 use Rattle.session.proofs.Standing.{count-answers}
 use Rattle.session.proofs.Theorems.{good-run-is, bad-does-nothing, book-fits}
-use Rattle.report.specs.Listing.{stepLines, placeLines, lastLine, badText, listingText, listingOf, lengthIn, runText}
-use Rattle.report.specs.Writing.{Wrote}
+use Rattle.report.specs.Listing.{stepLines, placeLines, lastLine, badText, listingText, listingOf, lengthIn}
+use Rattle.report.specs.Writing.{runText, Wrote}
 
 -- ---- a session and its run
 

@@ -4,5 +4,6 @@ pub mod Digits
 pub mod Turns
 pub mod Fitting
 pub mod Opened
+pub mod Untouched
 pub mod Theorems
 pub mod Worked

@@ -9,32 +9,33 @@ use native.Mathlib.Omega.{arith}
 use lib.Dec.{eqb}
 use lib.ListN.{length}
 use borrow.Author.Tests.{eqb-true, eqb-false, ne-eqb}
-use Rattle.book.specs.Sets.{bit, has, entry, sum, count}
+use Rattle.sheet.specs.Walk.{sum}
+use Rattle.book.specs.Sets.{bit, has, entry, occurrences}
 use Rattle.book.specs.Book.{placeAt, placeRecord}
 use Rattle.book.specs.declared.Book.{Book}
 use Rattle.book.proofs.Tables.{bit-lt}
-use Rattle.report.specs.Listing.{placeLine, placeLines, members}
+use Rattle.report.specs.Listing.{placeLine, placeLines}
 use Rattle.report.specs.Places.{membersFrom, Rising, balanceLines}
 
 module _ (o : ℕ) where
   -- the places outside k .. k + n - 1
-  pub none-outside : (n k p : ℕ) → (p < k) ⊎ (k + n ≤ p) → count p (membersFrom o k n) ≡ 0
-  unfolding membersFrom count
+  pub none-outside : (n k p : ℕ) → (p < k) ⊎ (k + n ≤ p) → occurrences p (membersFrom o k n) ≡ 0
+  unfolding membersFrom occurrences
   none-outside zero k p h = refl
   none-outside (suc n) k p h = go (has o k) (none-outside n (suc k) p (⊎-elim (λ l. inl (omega arith)) (λ l. inr (omega arith)) h))
     where
-      go : (t : Bool) → count p (membersFrom o (suc k) n) ≡ 0 → count p (cond t (k ∷ membersFrom o (suc k) n) (membersFrom o (suc k) n)) ≡ 0
+      go : (t : Bool) → occurrences p (membersFrom o (suc k) n) ≡ 0 → occurrences p (cond t (k ∷ membersFrom o (suc k) n) (membersFrom o (suc k) n)) ≡ 0
       go true e = rw (ne-eqb p k (λ z. ⊎-elim (λ l. omega arith) (λ l. omega arith) h), e)
       go false e = e
 
   -- those inside
-  pub each-inside : (n k p : ℕ) → k ≤ p → p < k + n → count p (membersFrom o k n) ≡ bit o p
-  unfolding membersFrom count
+  pub each-inside : (n k p : ℕ) → k ≤ p → p < k + n → occurrences p (membersFrom o k n) ≡ bit o p
+  unfolding membersFrom occurrences
   each-inside zero k p g h = omega arith
   each-inside (suc n) k p g h = go (has o k) (eqb p k) refl refl (λ l. each-inside n (suc k) p l (omega arith))
     where
-      go : (t u : Bool) → has o k ≡ t → eqb p k ≡ u → (suc k ≤ p → count p (membersFrom o (suc k) n) ≡ bit o p)
-          → count p (cond t (k ∷ membersFrom o (suc k) n) (membersFrom o (suc k) n)) ≡ bit o p
+      go : (t u : Bool) → has o k ≡ t → eqb p k ≡ u → (suc k ≤ p → occurrences p (membersFrom o (suc k) n) ≡ bit o p)
+          → occurrences p (cond t (k ∷ membersFrom o (suc k) n) (membersFrom o (suc k) n)) ≡ bit o p
       go true true e f r =
           let s : p ≡ k = eqb-true p k f in
           rw (f, none-outside n (suc k) p (inl (omega arith)), s) (omega (arith, eqb-true (bit o k) 1 e))

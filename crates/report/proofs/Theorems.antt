@@ -12,14 +12,14 @@ use native.Mathlib.Omega.{arith}
 use lib.ListN.{length}
 use Rattle.amount.specs.Canonical.{strip, decimalText, wholeText, canonicalText}
 use Rattle.amount.proofs.Halves.{val-halves}
-use Rattle.book.specs.Sets.{sum, count}
+use Rattle.sheet.specs.Walk.{sum}
 use Rattle.book.specs.Book.{total, wholeAmount}
 use Rattle.book.specs.Steps.{Step, startBook}
 use Rattle.book.specs.Claim.{acceptedOf, issued, taken}
 use Rattle.book.specs.declared.Book.{Book}
 use Rattle.session.specs.Session.{good, unitOf, stepsOf, bookOf}
 use Rattle.session.proofs.Theorems.{total-is-issued-less-taken}
-use Rattle.report.specs.Listing.{placeLines, members, countsText, total-word, line-feed, lastLine}
+use Rattle.report.specs.Listing.{placeLines, members, countsText, held-word, way-word, total-word, line-feed, lastLine}
 use Rattle.report.specs.Places.{membersFrom, balanceLines, Members}
 use Rattle.report.proofs.Opened.{none-outside, each-inside, rising, as-many, lines-from}
 
@@ -43,8 +43,15 @@ module _ (b : Book) where
   unfolding placeLines
   open-places-printed = (listed (b .opened) 16, lines-from b 16 0)
 
+  -- and the last line's counts are how many places those are, and how many transfers are under way
   pub under-way-counted : Members (b .pending) 8 (membersFrom (b .pending) 0 8)
-  under-way-counted = listed (b .pending) 8
+      × (
+      lastLine b
+      ≡ held-word ++ wholeText (length (membersFrom (b .opened) 0 16)) ++ way-word ++ wholeText (length (membersFrom (b .pending) 0 8)) ++ total-word
+      ++ canonicalText (wholeAmount (total b)) ++ line-feed
+      )
+  unfolding lastLine countsText
+  under-way-counted = (listed (b .pending) 8, rw (← listed (b .opened) 16 .counted, ← listed (b .pending) 8 .counted))
 
 -- ---- the total
 

@@ -3,16 +3,16 @@ use mathlib.Core.Bool.{cond}
 use mathlib.Core.Option.{Option, some, none}
 use mathlib.Core.List.{List, [], _∷_, _++_}
 use Prim.Native.Nat.{ℕ, zero, suc}
-use lib.Dec.{eqb, leb}
-use lib.ListN.{length, take}
+use lib.Dec.{leb}
+use lib.ListN.{length}
 use Rattle.amount.specs.Canonical.{wholeText, canonicalText}
-use Rattle.book.specs.Sets.{bit, sum}
+use Rattle.sheet.specs.Walk.{sum}
+use Rattle.book.specs.Sets.{bit}
 use Rattle.book.specs.Book.{placeAt, total, wholeAmount}
 use Rattle.book.specs.declared.Place.{Place}
 use Rattle.book.specs.declared.Book.{Book}
 use Rattle.session.specs.Session.{good, answersOf, bookOf}
 use Rattle.session.specs.declared.StepAnswer.{StepAnswer}
-use Rattle.session.specs.declared.Run.{Run}
 
 -- ---- the words, with the spaces beside them
 
@@ -88,7 +88,3 @@ listingOf s = cond (good s) (listingText (answersOf s) (bookOf s)) badText
 -- the length written: 0 where the buffer is too short
 unfoldable pub lengthIn : List ℕ → List ℕ → ℕ
 lengthIn w old = cond (leb (length w) (length old)) (length w) 0
-
--- For the private writer of a run: the listing of the session that it is the run of.
-unfoldable pub runText : Run → List ℕ
-runText r = cond (eqb (r .number) 0) (listingText (take (r .count) (r .steps)) (r .book)) badText

@@ -5,7 +5,7 @@ use mathlib.Core.List.{List, [], _∷_, _++_}
 use Prim.Native.Nat.{ℕ, zero, suc, _≤_, _<_}
 use lib.ListN.{length}
 use Rattle.amount.specs.Canonical.{wholeText, canonicalText}
-use Rattle.book.specs.Sets.{bit, has, count}
+use Rattle.book.specs.Sets.{bit, has, occurrences}
 use Rattle.book.specs.Book.{placeRecord}
 use Rattle.book.specs.declared.Book.{Book}
 use Rattle.report.specs.Listing.{place-word, space, line-feed, members}
@@ -27,7 +27,7 @@ balanceLines b (p ∷ l) = place-word ++ wholeText p ++ space ++ canonicalText (
 
 -- l has the members of a set below n: every one once, no other, lowest first, and as many as are counted
 pub record Members (o n : ℕ) (l : List ℕ) : Type 0 where
-  pub each-once : (p : ℕ) → p < n → count p l ≡ bit o p
-  pub no-other : (p : ℕ) → n ≤ p → count p l ≡ 0
+  pub each-once : (p : ℕ) → p < n → occurrences p l ≡ bit o p
+  pub no-other : (p : ℕ) → n ≤ p → occurrences p l ≡ 0
   pub lowest-first : Rising 0 l
   pub counted : members n o ≡ length l

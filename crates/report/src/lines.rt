@@ -6,8 +6,8 @@ ghost use Prim.Native.Nat.{_+_, _<_, _≤_};
 ghost use lib.ListN.{take};
 ghost use Rattle.book.specs.Sets.{has};
 ghost use Rattle.book.specs.Book.{total, wellFormed};
-ghost use Rattle.report.specs.Listing.{stepLine, stepLines, placeLine, placeLines, members, countsText, lastLine, runText};
-ghost use Rattle.report.specs.Writing.{Wrote};
+ghost use Rattle.report.specs.Listing.{stepLine, stepLines, placeLine, placeLines, members, countsText, lastLine};
+ghost use Rattle.report.specs.Writing.{runText, Wrote};
 use crate::text;
 use amount::Amount;
 use book::Book;
@@ -114,7 +114,7 @@ fn put_last(out: &mut [u8], at: usize, book: Book) -> usize
 }
 
 // The listing of a run, from the buffer's start on.
-pub fn put_listing(out: &mut [u8], run: Run) -> usize
+pub(crate) fn put_listing(out: &mut [u8], run: Run) -> usize
     requires { ⌜ (run .number ≡ 0 → (run .count ≤ 255) × (wellFormed (run .book) ≡ true)) ⌝ }
     ensures { λ r. ⌜ (r ≤ 4096) × Wrote (now (out .entry)) 0 (runText run) (now (out .exit)) r ⌝ }
 {

@@ -8,7 +8,7 @@ ghost use Rattle.amount.specs.Canonical.{wholeText, canonicalText};
 ghost use Rattle.report.specs.Writing.{Wrote};
 use amount::Amount;
 
-pub fn put(out: &mut [u8], at: usize, text: &[u8]) -> usize
+pub(crate) fn put(out: &mut [u8], at: usize, text: &[u8]) -> usize
     requires { ⌜ at + length (now text) < 65536 ⌝ }
     ensures { λ r. ⌜ (r ≡ at + length (now (text .entry))) × Wrote (now (out .entry)) at (now (text .entry)) (now (out .exit)) r ⌝ }
 {
@@ -24,7 +24,7 @@ pub fn put(out: &mut [u8], at: usize, text: &[u8]) -> usize
 }
 
 // A number in decimal.
-pub fn put_number(out: &mut [u8], at: usize, n: u16) -> usize
+pub(crate) fn put_number(out: &mut [u8], at: usize, n: u16) -> usize
     requires { ⌜ (n < 1000) × (at + 3 < 65536) ⌝ }
     ensures { λ r. ⌜ (r ≤ at + 3) × Wrote (now (out .entry)) at (wholeText n) (now (out .exit)) r ⌝ }
 {
@@ -49,7 +49,7 @@ fn put_first(out: &mut [u8], at: usize, bytes: [u8; 257], len: u16) -> usize
 }
 
 // An amount of whole credits, as all of a book are.
-pub fn put_amount(out: &mut [u8], at: usize, a: Amount) -> usize
+pub(crate) fn put_amount(out: &mut [u8], at: usize, a: Amount) -> usize
     requires { ⌜ (a .scale ≡ 0) × (at + 39 < 65536) ⌝ }
     ensures { λ r. ⌜ (r ≤ at + 39) × Wrote (now (out .entry)) at (canonicalText a) (now (out .exit)) r ⌝ }
 {

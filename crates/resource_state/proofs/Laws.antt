@@ -12,7 +12,8 @@ use Rattle.registry.specs.declared.error.Outcome.{Outcome}
 use Rattle.registry.specs.declared.error.Outcome.the-variants.{Accepted, Refused}
 use Rattle.registry.specs.declared.error.Reading.{Reading}
 use Rattle.registry.specs.declared.error.Reading.the-variants.{Given, Failed}
-use Rattle.resource_state.specs.Next.{Gives, Makes, unlessRefused, unlessFailed, amountOver, nextOver, withAmount, amountFor}
+use Rattle.resource_state.specs.Next.{Gives, Makes, unlessRefused, withAmount, amountFor}
+use Rattle.resource_state.specs.Helpers.{unlessFailed, amountOver, nextOver}
 use Rattle.resource_state.specs.declared.ResourceState.{ResourceState}
 use Rattle.resource_state.specs.declared.Next.{Next}
 use Rattle.resource_state.specs.declared.Next.the-variants as Next

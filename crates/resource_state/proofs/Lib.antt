@@ -1,2 +1,3 @@
 -- The laws of the definitions, which the proofs cite.
 pub mod Laws
+pub mod Covered

@@ -5,10 +5,10 @@ use Prim.Native.Nat.{ℕ}
 use lib.Dec.{eqb}
 use Rattle.sheet.specs.Fields.{Field, field, Sight, sightOf, subject, unit, quantity, balance, remaining, maximum, amount, to-subject, to-unit}
 use Rattle.registry.specs.Readers.{amountIn}
-use Rattle.registry.specs.Tests.{Test, born, in-text, in-amount, st-text, st-amount, adds, subtracts}
+use Rattle.registry.specs.Tests.{Test, born, in-text, in-amount, st-text, st-amount, can-add, can-subtract}
 use Rattle.registry.specs.Call.{called}
 use Rattle.registry.specs.declared.error.Reading.{Reading}
-use Rattle.resource_state.specs.Next.{Gives, zero, given, kept, sum, difference, lesser, Makes, stack-of, balance-of, meter-of, Row, row, unlessRefused, applied}
+use Rattle.resource_state.specs.Next.{Gives, zero, given, kept, sum, difference, lesser, Makes, stack-of, balance-of, meter-of, ApplyRow, applyRow, unlessRefused, applied}
 use Rattle.resource_state.specs.declared.Part.the-variants.{State, Input}
 use Rattle.resource_state.specs.declared.Next.{Next}
 
@@ -18,10 +18,10 @@ holding = born ∷ st-text subject ∷ st-text unit ∷ []
 
 -- st held, in asked, then 17 or 18
 abbrev pub raising : ℕ → ℕ → List Test
-raising held asked = st-amount held ∷ in-amount asked ∷ adds held asked ∷ []
+raising held asked = st-amount held ∷ in-amount asked ∷ can-add held asked ∷ []
 
 abbrev pub lowering : ℕ → ℕ → List Test
-lowering held asked = st-amount held ∷ in-amount asked ∷ subtracts held asked ∷ []
+lowering held asked = st-amount held ∷ in-amount asked ∷ can-subtract held asked ∷ []
 
 -- the state with another amount
 abbrev pub stackWith : Gives → Makes
@@ -30,23 +30,23 @@ stackWith = stack-of (State subject) (State unit)
 abbrev pub balanceWith : Gives → Makes
 balanceWith = balance-of (State subject) (State unit)
 
-abbrev pub stackApplies : List Row
+abbrev pub stackApplies : List ApplyRow
 stackApplies =
-    row (1 ∷ []) (in-text subject ∷ in-text unit ∷ in-amount quantity ∷ []) (stack-of (Input subject) (Input unit) (given quantity))
-    ∷ row (2 ∷ 7 ∷ []) (holding ++ raising quantity quantity) (stackWith (sum quantity quantity))
-    ∷ row (3 ∷ 4 ∷ 6 ∷ []) (holding ++ lowering quantity quantity) (stackWith (difference quantity quantity))
-    ∷ row (5 ∷ []) (born ∷ in-text to-subject ∷ st-text subject ∷ st-text unit ∷ lowering quantity quantity) (stackWith (difference quantity quantity))
-    ∷ row (8 ∷ []) holding (stackWith zero)
-    ∷ row (9 ∷ []) (holding ++ (in-amount quantity ∷ [])) (stackWith (given quantity))
+    applyRow (1 ∷ []) (in-text subject ∷ in-text unit ∷ in-amount quantity ∷ []) (stack-of (Input subject) (Input unit) (given quantity))
+    ∷ applyRow (2 ∷ 7 ∷ []) (holding ++ raising quantity quantity) (stackWith (sum quantity quantity))
+    ∷ applyRow (3 ∷ 4 ∷ 6 ∷ []) (holding ++ lowering quantity quantity) (stackWith (difference quantity quantity))
+    ∷ applyRow (5 ∷ []) (born ∷ in-text to-subject ∷ st-text subject ∷ st-text unit ∷ lowering quantity quantity) (stackWith (difference quantity quantity))
+    ∷ applyRow (8 ∷ []) holding (stackWith zero)
+    ∷ applyRow (9 ∷ []) (holding ++ (in-amount quantity ∷ [])) (stackWith (given quantity))
     ∷ []
 
-abbrev pub balanceApplies : List Row
+abbrev pub balanceApplies : List ApplyRow
 balanceApplies =
-    row (11 ∷ []) (in-text subject ∷ in-text unit ∷ in-amount balance ∷ []) (balance-of (Input subject) (Input unit) (given balance))
-    ∷ row (12 ∷ 13 ∷ 17 ∷ []) (holding ++ raising balance amount) (balanceWith (sum balance amount))
-    ∷ row (14 ∷ 16 ∷ 18 ∷ 19 ∷ []) (holding ++ lowering balance amount) (balanceWith (difference balance amount))
-    ∷ row (15 ∷ []) (born ∷ in-text to-subject ∷ st-text subject ∷ st-text unit ∷ lowering balance amount) (balanceWith (difference balance amount))
-    ∷ row (20 ∷ []) (born ∷ st-text subject ∷ in-text to-unit ∷ lowering balance amount)
+    applyRow (11 ∷ []) (in-text subject ∷ in-text unit ∷ in-amount balance ∷ []) (balance-of (Input subject) (Input unit) (given balance))
+    ∷ applyRow (12 ∷ 13 ∷ 17 ∷ []) (holding ++ raising balance amount) (balanceWith (sum balance amount))
+    ∷ applyRow (14 ∷ 16 ∷ 18 ∷ 19 ∷ []) (holding ++ lowering balance amount) (balanceWith (difference balance amount))
+    ∷ applyRow (15 ∷ []) (born ∷ in-text to-subject ∷ st-text subject ∷ st-text unit ∷ lowering balance amount) (balanceWith (difference balance amount))
+    ∷ applyRow (20 ∷ []) (born ∷ st-text subject ∷ in-text to-unit ∷ lowering balance amount)
     (balance-of (State subject) (Input to-unit) (difference balance amount))
     ∷ []
 
@@ -54,14 +54,14 @@ balanceApplies =
 abbrev pub metering : List Test
 metering = born ∷ st-text subject ∷ st-amount maximum ∷ []
 
-abbrev pub meterApplies : List Row
+abbrev pub meterApplies : List ApplyRow
 meterApplies =
-    row (21 ∷ []) (in-text subject ∷ in-amount remaining ∷ in-amount maximum ∷ []) (meter-of (Input subject) (given remaining) (given maximum))
-    ∷ row (22 ∷ []) (metering ++ lowering remaining amount)
+    applyRow (21 ∷ []) (in-text subject ∷ in-amount remaining ∷ in-amount maximum ∷ []) (meter-of (Input subject) (given remaining) (given maximum))
+    ∷ applyRow (22 ∷ []) (metering ++ lowering remaining amount)
     (meter-of (State subject) (difference remaining amount) (kept maximum))
-    ∷ row (23 ∷ []) metering (meter-of (State subject) (kept maximum) (kept maximum))
-    ∷ row (24 ∷ []) (born ∷ st-text subject ∷ st-amount remaining ∷ in-amount maximum ∷ []) (meter-of (State subject) (lesser maximum remaining) (given maximum))
-    ∷ row (25 ∷ 26 ∷ []) metering (meter-of (State subject) zero (kept maximum))
+    ∷ applyRow (23 ∷ []) metering (meter-of (State subject) (kept maximum) (kept maximum))
+    ∷ applyRow (24 ∷ []) (born ∷ st-text subject ∷ st-amount remaining ∷ in-amount maximum ∷ []) (meter-of (State subject) (lesser maximum remaining) (given maximum))
+    ∷ applyRow (25 ∷ 26 ∷ []) metering (meter-of (State subject) zero (kept maximum))
     ∷ []
 
 unfoldable pub stackNext : (ℕ → Field → Reading) → Sight → (ℕ → Field) → ℕ → Next

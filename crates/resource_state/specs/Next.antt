@@ -5,10 +5,10 @@ use Prim.Native.Nat.{ℕ}
 use Rattle.amount.specs.Amounts.{minOf}
 use Rattle.amount.specs.declared.Amount.{Amount}
 use Rattle.writer.specs.Encode.{stackSheet, balanceSheet, meterSheet}
-use Rattle.sheet.specs.Fields.{Field, field, Sight, sightOf}
+use Rattle.sheet.specs.Fields.{Field, Sight}
 use Rattle.registry.specs.Refusals.{zeroAmount}
-use Rattle.registry.specs.Readers.{amountIn, amountOf, bytesOf, readAmount}
-use Rattle.registry.specs.Tests.{Test, among, first, firstOf, plus, less}
+use Rattle.registry.specs.Readers.{amountOf, bytesOf, readAmount}
+use Rattle.registry.specs.Tests.{Test, among, first, plus, less}
 use Rattle.registry.specs.declared.error.ProfileError.the-variants.{UnknownOperation}
 use Rattle.registry.specs.declared.error.Outcome.{Outcome}
 use Rattle.registry.specs.declared.error.Outcome.the-variants.{Accepted, Refused}
@@ -37,13 +37,13 @@ pub data Makes : Type 0 where
   meter-of : (subject : Part) (remaining maximum : Gives) → Makes
 
 -- some operations, their tests, and what they make
-pub record Row : Type 0 where
+pub record ApplyRow : Type 0 where
   pub operations : List ℕ
   pub tests : List Test
   pub makes : Makes
 
-abbrev pub row : List ℕ → List Test → Makes → Row
-row operations tests makes = record { operations = operations; tests = tests; makes = makes }
+abbrev pub applyRow : List ℕ → List Test → Makes → ApplyRow
+applyRow operations tests makes = record { operations = operations; tests = tests; makes = makes }
 
 -- a next state, where the tests are passed
 abbrev pub unlessRefused : Outcome → Next → Next
@@ -81,7 +81,7 @@ module _ (read : ℕ → Field → Reading) (st : Sight) (inp : ℕ → Field) w
   made (meter-of subject remaining maximum) = meterOf subject (amountFor remaining) (amountFor maximum)
 
   -- the tests of the operation's row, then its next state; 4 where there is no row
-  abbrev pub applied : ℕ → List Row → Next
+  abbrev pub applied : ℕ → List ApplyRow → Next
   applied op [] = Next.Refused UnknownOperation
   applied op (r ∷ rs) = cond (among op (r .operations)) (unlessRefused (first read st inp (r .tests)) (Next.State (made (r .makes)))) (applied op rs)
 
@@ -95,18 +95,6 @@ unfoldable pub sheetOf : (ℕ → Field) → (ℕ → Field) → ResourceState �
 sheetOf st inp (ConsumableStack s) = stackSheet (textFrom st inp (s .subject)) (textFrom st inp (s .unit)) (s .quantity)
 sheetOf st inp (FungibleBalance s) = balanceSheet (textFrom st inp (s .subject)) (textFrom st inp (s .unit)) (s .balance)
 sheetOf st inp (MeteredResource s) = meterSheet (textFrom st inp (s .subject)) (s .remaining) (s .maximum)
-
--- For the private helpers: an amount, or a next state, of two sheets where the tests are passed.
-
-abbrev pub unlessFailed : Outcome → Amount → Reading
-unlessFailed Accepted a = Given a
-unlessFailed (Refused e) a = Failed e
-
-abbrev pub amountOver : List ℕ → List ℕ → List Test → Gives → Reading
-amountOver s i tests g = unlessFailed (firstOf s i tests) (amountFor amountIn (sightOf s) (field i) g)
-
-abbrev pub nextOver : List ℕ → List ℕ → List Test → Makes → Next
-nextOver s i tests m = unlessRefused (firstOf s i tests) (Next.State (made amountIn (sightOf s) (field i) m))
 
 -- a next state with an amount that was read
 abbrev pub withAmount : Reading → (Amount → ResourceState) → Next

@@ -3,7 +3,8 @@ ghost use mathlib.Core.Path.{_≡_};
 ghost use mathlib.Core.List.{[], _∷_, _++_};
 ghost use Rattle.sheet.specs.Fields.{subject, unit, to-subject, to-unit, balance, amount};
 ghost use Rattle.registry.specs.Tests.{firstOf, born, in-text, in-amount, st-text};
-ghost use Rattle.resource_state.specs.Next.{amountOver, zero, given, sum, difference};
+ghost use Rattle.resource_state.specs.Next.{zero, given, sum, difference};
+ghost use Rattle.resource_state.specs.Helpers.{amountOver};
 ghost use Rattle.resource_state.specs.Apply.{holding, raising, lowering};
 use amount::Amount;
 use registry::error::Outcome;
@@ -51,7 +52,7 @@ fn raised(state: &[u8], input: &[u8], held: u8, asked: u8) -> Reading
 }
 
 // What is held less what is asked.
-pub fn lowered(state: &[u8], input: &[u8], held: u8, asked: u8) -> Reading
+pub(crate) fn lowered(state: &[u8], input: &[u8], held: u8, asked: u8) -> Reading
     ensures { λ r. ⌜ r ≡ amountOver (now (state .entry)) (now (input .entry)) (lowering held asked) (difference held asked) ⌝ }
 {
     let current = match state_amount(state, held) {
@@ -66,7 +67,7 @@ pub fn lowered(state: &[u8], input: &[u8], held: u8, asked: u8) -> Reading
 }
 
 // The amount of a create.
-pub fn created(input: &[u8], name: u8) -> Reading
+pub(crate) fn created(input: &[u8], name: u8) -> Reading
     ensures { λ r. ⌜ r ≡ amountOver [] (now (input .entry)) (in-text subject ∷ in-text unit ∷ in-amount name ∷ []) (given name) ⌝ }
 {
     if let Outcome::Refused(e) = input_str(input, SUBJECT) {
@@ -78,7 +79,7 @@ pub fn created(input: &[u8], name: u8) -> Reading
     input_amount(input, name)
 }
 
-pub fn credited(state: &[u8], input: &[u8], held: u8, asked: u8) -> Reading
+pub(crate) fn credited(state: &[u8], input: &[u8], held: u8, asked: u8) -> Reading
     ensures { λ r. ⌜ r ≡ amountOver (now (state .entry)) (now (input .entry)) (holding ++ raising held asked) (sum held asked) ⌝ }
 {
     if let Outcome::Refused(e) = require_texts(state) {
@@ -87,7 +88,7 @@ pub fn credited(state: &[u8], input: &[u8], held: u8, asked: u8) -> Reading
     raised(state, input, held, asked)
 }
 
-pub fn debited(state: &[u8], input: &[u8], held: u8, asked: u8) -> Reading
+pub(crate) fn debited(state: &[u8], input: &[u8], held: u8, asked: u8) -> Reading
     ensures { λ r. ⌜ r ≡ amountOver (now (state .entry)) (now (input .entry)) (holding ++ lowering held asked) (difference held asked) ⌝ }
 {
     if let Outcome::Refused(e) = require_texts(state) {
@@ -97,7 +98,7 @@ pub fn debited(state: &[u8], input: &[u8], held: u8, asked: u8) -> Reading
 }
 
 // The source of a transfer: in to_subject directly after born.
-pub fn transferred(state: &[u8], input: &[u8], held: u8, asked: u8) -> Reading
+pub(crate) fn transferred(state: &[u8], input: &[u8], held: u8, asked: u8) -> Reading
     ensures { λ r. ⌜ r ≡ amountOver (now (state .entry)) (now (input .entry)) (born ∷ in-text to-subject ∷ st-text subject ∷ st-text unit ∷ lowering held asked) (difference held asked) ⌝ }
 {
     if let Outcome::Refused(e) = require_current(state) {
@@ -116,7 +117,7 @@ pub fn transferred(state: &[u8], input: &[u8], held: u8, asked: u8) -> Reading
 }
 
 // Convert reads no unit of the state.
-pub fn converted(state: &[u8], input: &[u8]) -> Reading
+pub(crate) fn converted(state: &[u8], input: &[u8]) -> Reading
     ensures { λ r. ⌜ r ≡ amountOver (now (state .entry)) (now (input .entry)) (born ∷ st-text subject ∷ in-text to-unit ∷ lowering balance amount) (difference balance amount) ⌝ }
 {
     if let Outcome::Refused(e) = require_current(state) {
@@ -132,7 +133,7 @@ pub fn converted(state: &[u8], input: &[u8]) -> Reading
 }
 
 // Expire leaves zero.
-pub fn expired(state: &[u8]) -> Reading
+pub(crate) fn expired(state: &[u8]) -> Reading
     ensures { λ r. ⌜ r ≡ amountOver (now (state .entry)) [] holding zero ⌝ }
 {
     if let Outcome::Refused(e) = require_texts(state) {
@@ -142,7 +143,7 @@ pub fn expired(state: &[u8]) -> Reading
 }
 
 // Adjust sets what the input says.
-pub fn adjusted(state: &[u8], input: &[u8], asked: u8) -> Reading
+pub(crate) fn adjusted(state: &[u8], input: &[u8], asked: u8) -> Reading
     ensures { λ r. ⌜ r ≡ amountOver (now (state .entry)) (now (input .entry)) (holding ++ (in-amount asked ∷ [])) (given asked) ⌝ }
 {
     if let Outcome::Refused(e) = require_texts(state) {

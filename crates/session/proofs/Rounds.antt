@@ -11,7 +11,7 @@ use Rattle.amount.specs.Numbers.{val, halves}
 use Rattle.amount.specs.declared.uint128.Uint128.{Uint128}
 use Rattle.amount.proofs.Halves.{val-halves}
 use Rattle.book.specs.Book.{placeRecord, transferRecord, total, wellFormed}
-use Rattle.book.specs.Refusals.{answerOf}
+use Rattle.book.specs.Refusals.{bookAnswerOf}
 use Rattle.book.specs.Steps.{Step, answer, next}
 use Rattle.book.specs.Claim.{keep, issued, taken}
 use Rattle.book.specs.declared.Book.{Book}
@@ -106,7 +106,7 @@ module _ (s : List ℕ) (x : Stand) (k : ℕ) where
       let i : j + 1 ≡ suc j = omega arith in
       let f : 255 - j ≡ suc (255 - suc j) = omega (arith, low) in
       let a : StepAnswer = record { number = y .number; detail = y .detail } in
-      let w : a ≡ brief (answerOf (answer b (withSheet z d))) = ap brief (u .answers) in
+      let w : a ≡ brief (bookAnswerOf (answer b (withSheet z d))) = ap brief (u .answers) in
       let o : List StepAnswer = answersFrom s x k j in
       let l-is : l ≡ o ++ (noAnswer ∷ replicate (255 - suc j) noAnswer) = r .answers ∙ rw f in
       rw i (record {

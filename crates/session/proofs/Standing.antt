@@ -16,7 +16,7 @@ use Rattle.book.specs.Book.{isSome}
 use Rattle.book.specs.Steps.{Step, Open, Act, Begin, Finish, next}
 use Rattle.book.specs.Claim.{run}
 use Rattle.book.specs.declared.Book.{Book}
-use Rattle.session.specs.Session.{count, lineAt, bodyAt, bodyOf, stepFits, fitsAt, good, stepOf, stepAt, listed, stepsFrom, stepsOf, saidBy, Stand, standAfter, answersFrom, startOf, answersOf, bookOf, noAnswer}
+use Rattle.session.specs.Session.{lineCount, lineAt, lineBodyAt, lineBody, stepFits, lineFitsAt, good, stepOf, stepAt, listed, stepsFrom, stepsOf, saidBy, Stand, standAfter, answersFrom, startOf, answersOf, bookOf, noAnswer}
 use Rattle.session.specs.Entries.{entryStep}
 use Rattle.steps.specs.Turn.{withSheet}
 use Rattle.steps.specs.declared.step.Step.{Step as Kind}
@@ -42,20 +42,20 @@ fits-step l i h = go (eqb (l .kind) 1) (eqb (l .kind) 2) (eqb (l .kind) 3) (eqb 
     go false false false true e = refl
     go false false false false e = absurd (false≢true e)
 
-pub later-step : (s : List ℕ) → good s ≡ true → (k : ℕ) → 1 ≤ k → k < count s → isSome (stepAt s k) ≡ true
+pub later-step : (s : List ℕ) → good s ≡ true → (k : ℕ) → 1 ≤ k → k < lineCount s → isSome (stepAt s k) ≡ true
 later-step s g k h l =
     let d : eqb k 0 ≡ false = ne-eqb k 0 (λ e. absurd (omega (arith, e, h))) in
-    let f = rw d at (all-at (fitsAt s) k (count s) l (good-fits s g)) in
-    fits-step (lineAt s k) _ (and-right (eqb (lineAt s k .offset) (bodyAt s k)) (stepFits (lineAt s k)) f)
+    let f = rw d at (all-at (lineFitsAt s) k (lineCount s) l (good-fits s g)) in
+    fits-step (lineAt s k) _ (and-right (eqb (lineAt s k .offset) (lineBodyAt s k)) (stepFits (lineAt s k)) f)
 
 -- what the code reads of entry k, l, as e
 module _ (s : List ℕ) (k : ℕ) {l : Line} {e : Entry} (l-is : l ≡ lineAt s k) (e-is : (i : List ℕ) → entryStep e i ≡ stepOf l i) where
-  pub read-step : {z : Kind} {d : List ℕ} → e ≡ Read.Step z → d ≡ bodyOf s l → stepAt s k ≡ some (withSheet z d)
+  pub read-step : {z : Kind} {d : List ℕ} → e ≡ Read.Step z → d ≡ lineBody s l → stepAt s k ≡ some (withSheet z d)
   read-step {z} {d} h d-is = rw (← l-is, ← d-is) (sym (e-is d) ∙ ap (λ (x : Entry). entryStep x d) h)
 
-  pub never-none : good s ≡ true → 1 ≤ k → k < count s → e ≡ Read.NoStep → ⊥
+  pub never-none : good s ≡ true → 1 ≤ k → k < lineCount s → e ≡ Read.NoStep → ⊥
   never-none g h m n =
-      let i : List ℕ = bodyOf s (lineAt s k) in
+      let i : List ℕ = lineBody s (lineAt s k) in
       let w : stepAt s k ≡ none = rw l-is at (sym (e-is i) ∙ ap (λ (x : Entry). entryStep x i) n) in
       false≢true (ap isSome (sym w) ∙ later-step s g k h m)
 
@@ -90,17 +90,17 @@ module _ (s : List ℕ) (g : good s ≡ true) (x : Stand) (k : ℕ) (later : 1 �
   abbrev its : ℕ → List StepAnswer
   its m = saidBy (standAfter s x k m .book) (stepAt s (k + m))
 
-  its-one : (m : ℕ) → k + m < count s → length (its m) ≡ 1
+  its-one : (m : ℕ) → k + m < lineCount s → length (its m) ≡ 1
   its-one m h = said-one (standAfter s x k m .book) (stepAt s (k + m)) (later-step s g (k + m) (omega (arith, later)) h)
 
-  pub answers-length : (m : ℕ) → k + m ≤ count s → length (answersFrom s x k m) ≡ m
+  pub answers-length : (m : ℕ) → k + m ≤ lineCount s → length (answersFrom s x k m) ≡ m
   unfolding answersFrom
   answers-length zero h = refl
   answers-length (suc m) h =
       omega (arith, length-append (answersFrom s x k m) (its m), its-one m (omega (arith, h)), answers-length m (omega (arith, h)))
 
   -- each is its own step's, on the book as the ones before left it
-  pub answer-at : (m i : ℕ) → k + m ≤ count s → i < m → getD (answersFrom s x k m) i noAnswer ∷ [] ≡ its i
+  pub answer-at : (m i : ℕ) → k + m ≤ lineCount s → i < m → getD (answersFrom s x k m) i noAnswer ∷ [] ≡ its i
   unfolding answersFrom
   answer-at zero i h l = absurd (not-suc-le-zero l)
   answer-at (suc m) i h l =
@@ -116,8 +116,8 @@ module _ (s : List ℕ) (g : good s ≡ true) (x : Stand) (k : ℕ) (later : 1 �
 module _ (s : List ℕ) where
   pub book-of-steps : bookOf s ≡ run (startOf s .book) (stepsOf s)
   unfolding bookOf stepsOf
-  book-of-steps = book-run s (startOf s) 1 (count s - 1)
+  book-of-steps = book-run s (startOf s) 1 (lineCount s - 1)
 
-  pub count-answers : good s ≡ true → length (answersOf s) ≡ count s - 1
+  pub count-answers : good s ≡ true → length (answersOf s) ≡ lineCount s - 1
   unfolding answersOf
-  count-answers g = answers-length s g (startOf s) 1 (omega arith) (count s - 1) (omega (arith, good-count s g .0))
+  count-answers g = answers-length s g (startOf s) 1 (omega arith) (lineCount s - 1) (omega (arith, good-count s g .0))

@@ -4,7 +4,7 @@ ghost use mathlib.Core.Bool.{_&&_};
 ghost use mathlib.Core.List.{List};
 ghost use lib.Dec.{eqb};
 ghost use Prim.Native.Nat.{ℕ, _+_, _*_, _<_};
-ghost use Rattle.session.specs.Session.{lineAt, bodyOf, startFits, stepFits, lineFits, sound, stepOf};
+ghost use Rattle.session.specs.Session.{lineAt, lineBody, startFits, stepFits, lineFits, soundSession, stepOf};
 ghost use Rattle.session.specs.Entries.{entryStep};
 use super::Line;
 use steps::Step;
@@ -22,7 +22,7 @@ fn word(lo: u8, hi: u8) -> u16
 }
 
 // Entry k of the table.
-pub fn line_at(s: &[u8], k: usize) -> Line
+pub(crate) fn line_at(s: &[u8], k: usize) -> Line
     requires { ⌜ k < 256 ⌝ }
     ensures { λ r. ⌜ r ≡ lineAt (now (s .entry)) k ⌝ }
 {
@@ -49,8 +49,8 @@ pub fn line_at(s: &[u8], k: usize) -> Line
 }
 
 // The body of an entry, as a part of the session.
-pub fn body(s: &[u8], l: Line) -> &[u8]
-    ensures { λ r. ⌜ now r ≡ bodyOf (now (s .entry)) l ⌝ }
+pub(crate) fn body(s: &[u8], l: Line) -> &[u8]
+    ensures { λ r. ⌜ now r ≡ lineBody (now (s .entry)) l ⌝ }
 {
     sheet::part(s, l.offset as usize, l.len as usize)
 }
@@ -61,7 +61,7 @@ pub enum Entry {
     NoStep,
 }
 
-pub fn step_of(l: Line) -> Entry
+pub(crate) fn step_of(l: Line) -> Entry
     ensures { λ r. ⌜ ((i : List ℕ) → entryStep r i ≡ stepOf l i) ⌝ }
 {
     let kind = l.kind;
@@ -138,8 +138,8 @@ fn line_fits(k: usize, l: Line, at: usize) -> bool
 }
 
 // Whether the bytes are a session. `at` is where the next body must start, and moves by each entry's own length.
-pub fn is_sound(s: &[u8]) -> bool
-    ensures { λ r. ⌜ r ≡ sound (now (s .entry)) ⌝ }
+pub(crate) fn is_sound(s: &[u8]) -> bool
+    ensures { λ r. ⌜ r ≡ soundSession (now (s .entry)) ⌝ }
 {
     if MAX_BYTES < s.len() {
         return false;

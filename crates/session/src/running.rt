@@ -2,7 +2,7 @@
 ghost use mathlib.Core.Path.{_≡_};
 ghost use mathlib.Core.Bool.{true};
 ghost use Prim.Native.Nat.{_+_, _≤_};
-ghost use Rattle.session.specs.Session.{count, unitOf, good, badRun, runFrom, runOf};
+ghost use Rattle.session.specs.Session.{lineCount, unitOf, good, badRun, runFrom, runOf};
 ghost use Rattle.audit.specs.Totals.{totalOf};
 use super::MAX_STEPS;
 use super::Run;
@@ -55,7 +55,7 @@ fn bad_run() -> Run
 // n steps from entry `first` on, each on the book as the one before left it. A step is decided and done by what it looks at, word by word;
 // `total` is the given book's, and moves with it.
 fn do_steps(s: &[u8], given: Book, first: u16, n: u16, total: Total) -> Run
-    requires { ⌜ (good (now s) ≡ true) × (1 ≤ first) × (first + n ≤ count (now s)) × (total ≡ totalOf given) ⌝ }
+    requires { ⌜ (good (now s) ≡ true) × (1 ≤ first) × (first + n ≤ lineCount (now s)) × (total ≡ totalOf given) ⌝ }
     ensures { λ r. ⌜ r ≡ runFrom (now (s .entry)) (record { book = given }) first n ⌝ }
 {
     let mut book = given;

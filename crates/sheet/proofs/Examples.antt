@@ -5,8 +5,8 @@ use Prim.Native.Nat.{ℕ}
 use Rattle.sheet.specs.declared.Shape.the-variants.{Input}
 use Rattle.sheet.specs.declared.Verdict.the-variants.{Sound, Torn}
 use Rattle.sheet.specs.declared.State.the-variants as State
-use Rattle.sheet.specs.Walk.{allTo, sumTo, prior}
-use Rattle.sheet.specs.Sheet.{entryAt, soundAs, verdictOf, stateOf, entriesFrom, lookup}
+use Rattle.sheet.specs.Walk.{every, sum, prior}
+use Rattle.sheet.specs.Sheet.{entryAt, isField, isForm, soundAs, verdictOf, stateOf, entriesFrom, lookup}
 use Rattle.sheet.specs.Amounts.{amountAt}
 use Rattle.sheet.specs.Fields.{field, absent, text, whole, other}
 
@@ -36,11 +36,11 @@ held = 3 ∷ 1 ∷ 1 ∷ 19 ∷ 0 ∷ 2 ∷ 0 ∷ 2 ∷ 1 ∷ 21 ∷ 0 ∷ 2 ∷
     ∷ 12 ∷ 0 ∷ 0 ∷ 0 ∷ 0 ∷ 0 ∷ 0 ∷ 0 ∷ 0 ∷ 0 ∷ 0 ∷ 0 ∷ 0 ∷ 0 ∷ 0 ∷ 0 ∷ 1 ∷ []
 
 inputs : map (verdictOf Input) ([] ∷ (0 ∷ []) ∷ opened ∷ gap ∷ twice ∷ late ∷ placed ∷ held ∷ []) ≡ Torn ∷ Sound ∷ Sound ∷ Torn ∷ Torn ∷ Torn ∷ Sound ∷ Torn ∷ []
-unfolding soundAs allTo entryAt sumTo prior
+unfolding soundAs every entryAt sum prior
 inputs = refl
 
 states : map stateOf ([] ∷ (0 ∷ []) ∷ opened ∷ held ∷ []) ≡ State.Absent ∷ State.Torn ∷ State.Torn ∷ State.Balance ∷ []
-unfolding soundAs allTo entryAt sumTo prior
+unfolding soundAs isForm isField entryAt
 states = refl
 
 texts : map (field opened) (1 ∷ 2 ∷ 4 ∷ 7 ∷ []) ≡ text (78 ∷ 49 ∷ []) ∷ text (114 ∷ 100 ∷ []) ∷ text (53 ∷ []) ∷ absent ∷ []

@@ -2,8 +2,8 @@
 pub mod Tables
 pub mod Walking
 pub mod Finding
+pub mod Forms
 pub mod Holding
 pub mod Three
-pub mod Forms
 pub mod Visiting
 pub mod Examples

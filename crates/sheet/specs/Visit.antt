@@ -11,8 +11,8 @@ use Rattle.sheet.specs.declared.reader.Step.{Step}
 use Rattle.sheet.specs.declared.reader.Step.the-variants.{Next, End}
 
 -- what a reader before entry k finds
-abbrev pub stepOf : List ℕ → ℕ → Step
-stepOf s k = cond (ltb k (count s)) (Next (entryAt s k)) End
+abbrev pub foundAt : List ℕ → ℕ → Step
+foundAt s k = cond (ltb k (count s)) (Next (entryAt s k)) End
 
 -- the entry behind entry k: at most 255, where every sheet has ended
 abbrev pub afterOf : ℕ → ℕ
@@ -34,4 +34,4 @@ visit End rest = []
 -- the entries that a reader meets from entry k on, in at most m steps
 unfoldable pub visited : List ℕ → ℕ → ℕ → List Entry
 visited s k zero = []
-visited s k (suc m) = visit (stepOf s k) (visited s (afterOf k) m)
+visited s k (suc m) = visit (foundAt s k) (visited s (afterOf k) m)

@@ -2,7 +2,7 @@
 // are proved by hand, so they are few and thin. Each takes the struct apart and calls a covered function on the slice and
 // the number.
 ghost use mathlib.Core.Path.{_≡_};
-ghost use Rattle.sheet.specs.Visit.{stepOf, afterOf, readerOf, behind};
+ghost use Rattle.sheet.specs.Visit.{foundAt, afterOf, readerOf, behind};
 use super::Entry;
 use super::byte;
 use super::entry_at;
@@ -14,7 +14,7 @@ pub enum Step {
 
 // What a reader that stands before entry k finds.
 pub fn step_at(s: &[u8], k: usize) -> Step
-    ensures { λ r. ⌜ r ≡ stepOf (now (s .entry)) k ⌝ }
+    ensures { λ r. ⌜ r ≡ foundAt (now (s .entry)) k ⌝ }
 {
     let n = byte(s, 0) as usize;
     if k < n {
@@ -45,7 +45,7 @@ pub fn new<'a>(sheet: &'a [u8]) -> Reader<'a>
 
 // The next entry. `sheet::entry_body` gives its body.
 pub fn entry<'a>(r: Reader<'a>) -> Step
-    ensures { λ s. ⌜ s ≡ stepOf (now (r .entry .sheet)) (r .entry .next) ⌝ }
+    ensures { λ s. ⌜ s ≡ foundAt (now (r .entry .sheet)) (r .entry .next) ⌝ }
 {
     step_at(r.sheet, r.next)
 }
@@ -63,7 +63,7 @@ pub fn rest<'a>(r: Reader<'a>) -> Reader<'a>
 
 // The first entry. Its parameter is a plain slice, so whoever calls it needs no walk.
 pub fn first(s: &[u8]) -> Step
-    ensures { λ r. ⌜ r ≡ stepOf (now (s .entry)) 0 ⌝ }
+    ensures { λ r. ⌜ r ≡ foundAt (now (s .entry)) 0 ⌝ }
 {
     entry(new(s))
 }

@@ -68,7 +68,7 @@ fn body_fits(e: Entry, at: usize) -> bool
 
 // Whether an entry of an input fits above the name `last`, its body starting at `at`.
 fn entry_fits(e: Entry, last: u8, at: usize) -> bool
-    ensures { λ r. ⌜ r ≡ entryFits Input e last at ⌝ }
+    ensures { λ r. ⌜ r ≡ entryFits e last at ⌝ }
 {
     if e.name <= last {
         return false;

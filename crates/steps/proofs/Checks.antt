@@ -18,7 +18,7 @@ use Rattle.sheet.specs.declared.Verdict.the-variants as Verdict
 use Rattle.registry.specs.Asked.{isSound, textNumber, askedIn}
 use Rattle.registry.specs.Call.{inputSound}
 use Rattle.registry.specs.Readers.{textIn, amountIn, amountOf, readable, onAmount, readAmount}
-use Rattle.registry.specs.Tests.{_then_, stateAbsent, stateThere, aboveZero, heldBy}
+use Rattle.registry.specs.Tests.{_then_, stateAbsent, stateThere, aboveZero, heldBy, first, born}
 use Rattle.registry.specs.declared.asked.Asked.{Asked}
 use Rattle.registry.specs.declared.error.Outcome.{Outcome}
 use Rattle.registry.specs.declared.error.Outcome.the-variants as Check
@@ -28,7 +28,7 @@ use Rattle.registry.specs.declared.error.Reading.{Reading}
 use Rattle.registry.specs.declared.error.Reading.the-variants.{Given, Failed}
 use Rattle.registry.proofs.Tests.{then-end}
 use Rattle.registry.proofs.Words.{Gives, asked-gives, TextLacks, text-given, text-lacks}
-use Rattle.profiles.specs.Balance.{balanceRules}
+use Rattle.profiles.specs.Balance.{balanceRules, debited}
 use Rattle.book.specs.Sets.{has}
 use Rattle.book.specs.Places.{placeView, putField}
 use Rattle.book.specs.Book.{credits, wholeAmount, nameBytes, placeRecord}
@@ -37,7 +37,7 @@ use Rattle.book.specs.declared.Book.{Book}
 use Rattle.book.specs.declared.error.BookError.the-variants.{Profile}
 use Rattle.book.specs.declared.error.BookOutcome.the-variants.{Accepted, Refused}
 use Rattle.book.proofs.Accepted.{zero-above, fact-held, held-short}
-use Rattle.book.proofs.Asking.{begin-debits, debit-asks}
+use Rattle.book.proofs.Asking.{begin-debits}
 use Rattle.book.proofs.Effects.{asked-whole}
 use Rattle.book.proofs.Rows.{among-all}
 use Rattle.steps.specs.Turn.{authorized}
@@ -94,6 +94,11 @@ module _ (s u : List ℕ) (held : Amount) (inp : ℕ → Field) where
   act-rules o k =
       among-all Ruled (12 ∷ 13 ∷ 14 ∷ 16 ∷ 17 ∷ 18 ∷ 19 ∷ [])
       (rw then-end, (rw then-end, (rw then-end, (rw then-end, (rw then-end, (rw then-end, (rw then-end, tt))))))) o k
+
+  -- debit's list is its amount, 14 and 15
+  debit-amounts : amounts false held (amountIn amount (inp amount)) ≡ first amountIn (placeView s u held) inp (born ∷ debited)
+  unfolding stateThere amountOf
+  debit-amounts = rw then-end
 
 -- by the number of its text
 pub authorizing-lacks : (o : ℕ) (inp : ℕ → Field) (k : ℕ) → k ≡ cond (authorized o) (textNumber (inp authorized-by)) 0 → k ≢ 0
@@ -190,4 +195,4 @@ module _ (b : Book) (f g : ℕ) (i : List ℕ) (h : Here b f) (k : Here b g) whe
   begin-check e =
       let s : List ℕ = nameBytes (placeRecord b f .subject) in
       let u : List ℕ = nameBytes (b .unit) in
-      sent ∙ ap said (begin-debits s u from-held (field i) amountIn to-name e ∙ sym (debit-asks s u from-held (field i)))
+      sent ∙ ap said (begin-debits s u from-held (field i) amountIn to-name e ∙ sym (debit-amounts s u from-held (field i)))

@@ -11,13 +11,13 @@ use borrow.Author.Tests.{ne-eqb}
 use Rattle.amount.specs.Numbers.{val}
 use Rattle.amount.specs.declared.Amount.{Amount}
 use Rattle.amount.specs.declared.uint128.Uint128.{Uint128}
-use Rattle.registry.specs.Refusals.{plainOf}
+use Rattle.registry.specs.Refusals.{numbered}
 use Rattle.registry.specs.declared.error.ProfileError.{ProfileError}
 use Rattle.registry.specs.declared.error.ProfileError.the-variants.{InsufficientQuantity}
 use Rattle.registry.proofs.Words.{Lacks}
 use Rattle.book.specs.Book.{noPlace, noTransfer, placeRecord, transferRecord, total, wellFormed}
 use Rattle.book.specs.Claim.{issued, taken}
-use Rattle.book.specs.Refusals.{answerOf, refusalOf}
+use Rattle.book.specs.Refusals.{bookAnswerOf, bookRefusalOf}
 use Rattle.book.specs.Steps.{Step, answer, effect, next, issues, takes}
 use Rattle.book.specs.declared.Name.{Name}
 use Rattle.book.specs.declared.Transfer.{Transfer}
@@ -91,11 +91,11 @@ module _ {b : Book} {s : Kind} {x : View} (v : Shows b s x) (i : List ℕ) (e : 
   same-total : (m : ℕ) → wellFormed b ≡ true → m + taken (done b (withSheet s i)) ≡ total b + issued (done b (withSheet s i)) → val (x .total) ≡ m
   same-total m w h = let k : m + taken [] ≡ total b + issued [] = rw (← nay) at h in v .total w ∙ omega (arith, k)
 
-  pub refuses : (n d : ℕ) (r : Turn) → r ≡ refusedBy x n d → refusalOf e ≡ plainOf n d → eqb n 0 ≡ false → eqb n 15 ≡ false → Turned b s i r
+  pub refuses : (n d : ℕ) (r : Turn) → r ≡ refusedBy x n d → bookRefusalOf e ≡ numbered n d → eqb n 0 ≡ false → eqb n 15 ≡ false → Turned b s i r
   refuses n d r h k some low =
       rw h
       (record {
-        answers = rw low (sym k ∙ ap answerOf nay);
+        answers = rw low (sym k ∙ ap bookAnswerOf nay);
         book = left-alone n some;
         total = same-total;
       })
@@ -110,7 +110,7 @@ pub falls-short : {b : Book} {s : Kind} {x : View} → Shows b s x → (i : List
 falls-short {b} {s} {x} v i n held asked r h nay p q =
     rw h
     (record {
-      answers = (let z : answerIn (shortBy x n) ≡ refusalOf (Profile (InsufficientQuantity held asked)) = rw (p, q) in z) ∙ ap answerOf nay;
+      answers = (let z : answerIn (shortBy x n) ≡ bookRefusalOf (Profile (InsufficientQuantity held asked)) = rw (p, q) in z) ∙ ap bookAnswerOf nay;
       book = left-alone v i _ nay 15 refl;
       total = same-total v i _ nay;
     })

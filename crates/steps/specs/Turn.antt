@@ -16,7 +16,7 @@ use Rattle.registry.specs.declared.asked.Asked.{Asked}
 use Rattle.registry.specs.declared.error.Answer.{Answer}
 use Rattle.book.specs.Book.{nameBytes, nameOf, blankName, placeRecord, transferRecord, total, wellFormed}
 use Rattle.book.specs.Claim.{keep, issued, taken}
-use Rattle.book.specs.Refusals.{answerOf}
+use Rattle.book.specs.Refusals.{bookAnswerOf}
 use Rattle.book.specs.Steps.{Step, Open, Act, Begin, Finish, bytesIn, answer, next}
 use Rattle.book.specs.declared.Book.{Book}
 use Rattle.book.specs.declared.Name.{Name}
@@ -73,11 +73,11 @@ abbrev pub subjectAfter : Kind → ℕ → Name → List ℕ → Name
 subjectAfter s number old i = cond (writesSubject s number) (shortName (bytesIn subject i)) old
 
 -- the name of the amount that it reads of its sheet; no field has the name 0
-abbrev pub amountOf : Kind → ℕ
-amountOf (Code.Open p) = balance
-amountOf (Code.Act p o) = amount
-amountOf (Code.Begin f g t) = amount
-amountOf (Code.Finish t) = 0
+abbrev pub amountNamed : Kind → ℕ
+amountNamed (Code.Open p) = balance
+amountNamed (Code.Act p o) = amount
+amountNamed (Code.Begin f g t) = amount
+amountNamed (Code.Finish t) = 0
 
 -- what its sheet asks; where it reads no amount, what any kind that went by it would refuse
 abbrev pub nothingAsked : Asked
@@ -153,7 +153,7 @@ done b s = keep (answer b s) s []
 -- THE TURN: its answer is the step's, what it leaves, stored, is the book after the step, and the total moves by what the step issues and
 -- takes
 pub record Turned (b : Book) (s : Kind) (i : List ℕ) (r : Turn) : Type 0 where
-  pub answers : answerIn r ≡ answerOf (answer b (withSheet s i))
+  pub answers : answerIn r ≡ bookAnswerOf (answer b (withSheet s i))
   pub book : stored b s i r ≡ next b (withSheet s i)
   pub total : (m : ℕ) → wellFormed b ≡ true → m + taken (done b (withSheet s i)) ≡ total b + issued (done b (withSheet s i))
       → val (r .left .total) ≡ m

@@ -1,16 +1,14 @@
 // An act: an operation of the balance profile at one place.
 ghost use mathlib.Core.Path.{_≡_};
 ghost use mathlib.Core.Bool.{true};
-ghost use Rattle.registry.specs.Asked.{askedIn};
+ghost use Rattle.registry.specs.Asked.{askedIn, textNumber};
 ghost use Rattle.book.specs.Book.{wellFormed};
 ghost use Rattle.book.specs.declared.Book.{Book};
-ghost use Rattle.steps.specs.Turn.{Shows, Turned};
+ghost use Rattle.steps.specs.Turn.{Shows, Turned, authorized};
 ghost use Rattle.steps.specs.declared.step.Step.the-variants as Code;
 ghost use mathlib.Core.Bool.{cond};
 ghost use Rattle.sheet.specs.Fields.{field, amount, authorized-by};
-ghost use Rattle.registry.specs.Asked.{textNumber};
 ghost use Rattle.book.specs.Steps.{adds, acts};
-ghost use Rattle.steps.specs.Turn.{authorized};
 use crate::step::PLACES;
 use crate::step::Turn;
 use crate::step::View;
@@ -70,7 +68,7 @@ fn unauthorized(operation: u8, sheet: &[u8]) -> u8
 }
 
 // 22, 6, 2, 4, the profile's check, 25; the amount is added or subtracted.
-pub fn act(was: View, asked: Asked, place: u8, operation: u8, sheet: &[u8]) -> Turn
+pub(crate) fn act(was: View, asked: Asked, place: u8, operation: u8, sheet: &[u8]) -> Turn
     ensures { λ r. ⌜ ((b : Book) → wellFormed b ≡ true → Shows b (Code.Act place operation) was → asked ≡ askedIn amount (now (sheet .entry))
         → Turned b (Code.Act place operation) (now (sheet .entry)) r) ⌝ }
 {

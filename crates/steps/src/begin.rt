@@ -38,7 +38,7 @@ fn off_the_book(from: u8, to: u8, transfer: u8) -> bool
 }
 
 // 22, 24, 21, 6, 2, then balance.transfer's check, whose to_subject is the destination's subject.
-pub fn begin(was: View, asked: Asked, from: u8, to: u8, transfer: u8) -> Turn
+pub(crate) fn begin(was: View, asked: Asked, from: u8, to: u8, transfer: u8) -> Turn
     ensures { λ r. ⌜ ((b : Book) (i : List ℕ) → wellFormed b ≡ true → Shows b (Code.Begin from to transfer) was → asked ≡ askedIn amount i
         → Turned b (Code.Begin from to transfer) i r) ⌝ }
 {

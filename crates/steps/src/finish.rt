@@ -17,7 +17,7 @@ use amount::Uint128;
 use book::error;
 
 // 22, 23.
-pub fn finish(was: View, transfer: u8) -> Turn
+pub(crate) fn finish(was: View, transfer: u8) -> Turn
     ensures { λ r. ⌜ ((b : Book) (i : List ℕ) → wellFormed b ≡ true → Shows b (Code.Finish transfer) was → Turned b (Code.Finish transfer) i r) ⌝ }
 {
     if TRANSFERS <= transfer {

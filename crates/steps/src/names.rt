@@ -23,7 +23,7 @@ pub fn length_of(name: Name) -> u8
 }
 
 // A text of at most 32 bytes as a name.
-pub fn name_of(text: &[u8]) -> Name
+pub(crate) fn name_of(text: &[u8]) -> Name
     requires { ⌜ length (now text) ≤ 32 ⌝ }
     ensures { λ r. ⌜ r ≡ nameOf (now (text .entry)) ⌝ }
 {
@@ -39,7 +39,7 @@ pub fn name_of(text: &[u8]) -> Name
     }
 }
 
-pub fn blank_name() -> Name
+pub(crate) fn blank_name() -> Name
     ensures { λ r. ⌜ r ≡ blankName ⌝ }
 {
     Name {
@@ -49,7 +49,7 @@ pub fn blank_name() -> Name
 }
 
 // The same of any text; one of over 32 bytes is no name.
-pub fn short_name(text: &[u8]) -> Name
+pub(crate) fn short_name(text: &[u8]) -> Name
     ensures { λ r. ⌜ r ≡ shortName (now (text .entry)) ⌝ }
 {
     if NAME_BYTES < text.len() {
@@ -78,7 +78,7 @@ fn same_text(bytes: [u8; NAME_BYTES], len: u8, text: &[u8]) -> bool
 }
 
 // Whether a name is that text.
-pub fn is_named(name: Name, text: &[u8]) -> bool
+pub(crate) fn is_named(name: Name, text: &[u8]) -> bool
     ensures { λ r. ⌜ r ≡ sameBytes (nameBytes name) (now (text .entry)) ⌝ }
 {
     let bytes = name.bytes;

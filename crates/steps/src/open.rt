@@ -23,7 +23,7 @@ use registry::asked::text_number;
 use registry::error as profile;
 
 // 22, 5, 2, create's check, 26, 27, 25. The caller stores the subject.
-pub fn open(was: View, asked: Asked, unit: Name, place: u8, sheet: &[u8]) -> Turn
+pub(crate) fn open(was: View, asked: Asked, unit: Name, place: u8, sheet: &[u8]) -> Turn
     ensures { λ r. ⌜ ((b : Book) → wellFormed b ≡ true → Shows b (Code.Open place) was → unit ≡ b .unit → asked ≡ askedIn balance (now (sheet .entry))
         → Turned b (Code.Open place) (now (sheet .entry)) r) ⌝ }
 {

@@ -132,7 +132,7 @@ fn answer(number: u8, detail: u8, available: Uint128, requested: Uint128) -> Ans
 }
 
 // A refusal leaves all as it was.
-pub fn refused(was: View, number: u8, detail: u8) -> Turn
+pub(crate) fn refused(was: View, number: u8, detail: u8) -> Turn
     ensures { λ r. ⌜ r ≡ refusedBy was number detail ⌝ }
 {
     Turn {
@@ -144,7 +144,7 @@ pub fn refused(was: View, number: u8, detail: u8) -> Turn
 }
 
 // 15.
-pub fn short(was: View, amount: Uint128) -> Turn
+pub(crate) fn short(was: View, amount: Uint128) -> Turn
     ensures { λ r. ⌜ r ≡ shortBy was amount ⌝ }
 {
     Turn {
@@ -155,7 +155,7 @@ pub fn short(was: View, amount: Uint128) -> Turn
     }
 }
 
-pub fn accepted(left: View) -> Turn
+pub(crate) fn accepted(left: View) -> Turn
     ensures { λ r. ⌜ r ≡ acceptedWith left ⌝ }
 {
     Turn {

@@ -1,7 +1,7 @@
 // A step by what it looks at: its sheet is judged and its amount read once, then its kind decides.
 ghost use mathlib.Core.Path.{_≡_};
 ghost use Rattle.book.specs.declared.Book.{Book};
-ghost use Rattle.steps.specs.Turn.{amountOf, askedOf, Shows, Turned};
+ghost use Rattle.steps.specs.Turn.{amountNamed, askedOf, Shows, Turned};
 use crate::act;
 use crate::begin;
 use crate::finish;
@@ -22,7 +22,7 @@ const NO_NAME: u8 = 0;
 
 // The name of the amount that a step reads of its sheet.
 fn amount_of(step: Step) -> u8
-    ensures { λ r. ⌜ r ≡ amountOf step ⌝ }
+    ensures { λ r. ⌜ r ≡ amountNamed step ⌝ }
 {
     match step {
         Step::Open(_) => sheet::BALANCE,

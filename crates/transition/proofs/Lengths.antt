@@ -24,7 +24,7 @@ use Rattle.registry.specs.Readers.{bytesOf}
 use Rattle.registry.proofs.Readers.{no-bytes}
 use Rattle.writer.specs.declared.Put.the-variants as Put
 use Rattle.resource_state.specs.Next.{textFrom, sheetOf}
-use Rattle.transition.specs.Written.{ShortTexts, PutFits}
+use Rattle.transition.specs.Helpers.{ShortTexts, PutFits}
 use Rattle.resource_state.specs.declared.Part.{Part}
 use Rattle.resource_state.specs.declared.Part.the-variants as Part
 use Rattle.resource_state.specs.declared.ResourceState.{ResourceState}
@@ -99,10 +99,11 @@ items-length : (n k m : ℕ) (x y z : List ℕ) → length (encode (item 1 1 x �
 unfolding encode
 items-length n k m x y z = rw (length-append x (y ++ (z ++ [])), length-append y (z ++ []), length-append z []) (omega arith)
 
-items-fit : (n k m : ℕ) (x y z : List ℕ) → length x ≤ 256 → length y ≤ 256 → length z ≤ 17 → length (encode (item 1 1 x ∷ item n k y ∷ item m 3 z ∷ [])) < 65536
+items-fit : (n k m : ℕ) (x y z : List ℕ) → length x ≤ 256 → length y ≤ 256 → length z ≤ 17 → length (encode (item 1 1 x ∷ item n k y ∷ item m 3 z ∷ [])) ≤ 548
 items-fit n k m x y z f g h = rw (items-length n k m x y z) (omega arith)
 
-pub sheet-fits : (s i : List ℕ) (n : ResourceState) → ShortTexts s → ShortTexts i → length (sheetOf (field s) (field i) n) < 65536
+-- the largest sheet has two texts of 256 bytes
+pub sheet-fits : (s i : List ℕ) (n : ResourceState) → ShortTexts s → ShortTexts i → length (sheetOf (field s) (field i) n) ≤ 548
 unfolding sheetOf stackSheet balanceSheet meterSheet
 sheet-fits s i (ConsumableStack n) f g =
     items-fit 2 1 3 _ _ (amountBytes (n .quantity)) (text-short s i f g (n .subject)) (text-short s i f g (n .unit)) (omega arith)
@@ -115,6 +116,6 @@ put-case : (t : Bool) (w old : List ℕ) → length w < 65536 → PutFits (cond 
 put-case true w old h = h
 put-case false w old h = omega arith
 
-pub put-fits : (w old : List ℕ) → length w < 65536 → PutFits (putAnswer w old)
+pub put-fits : (w old : List ℕ) → length w ≤ 548 → PutFits (putAnswer w old)
 unfolding putAnswer
-put-fits w old h = put-case (leb (length w) (length old)) w old h
+put-fits w old h = put-case (leb (length w) (length old)) w old (omega (arith, h))

@@ -3,3 +3,4 @@ pub mod Lengths
 pub mod Sizes
 pub mod WrittenBack
 pub mod Untouched
+pub mod Enough

@@ -10,7 +10,7 @@ use lib.ListN.{length}
 use borrow.Author.Tests.{ltb-true}
 use Rattle.amount.specs.Numbers.{limit, halves}
 use Rattle.amount.specs.Decimal.{allDigits, decimal}
-use Rattle.amount.specs.Amounts.{amountIf, readOf, compareOf, lesser, minOf, sumOf, differenceOf}
+use Rattle.amount.specs.Amounts.{amountIf, readOf, compareOf, lesserBy, minOf, sumOf, differenceOf}
 use Rattle.amount.specs.declared.Amount.{Amount}
 use Rattle.amount.specs.declared.uint128.Ordering.{Ordering}
 use Rattle.amount.specs.declared.uint128.Ordering.the-variants.{Less, Equal, Greater}
@@ -32,7 +32,7 @@ use Rattle.registry.specs.declared.error.Outcome.the-variants.{Accepted, Refuse
 use Rattle.registry.specs.declared.error.Reading.{Reading}
 use Rattle.registry.specs.declared.error.Reading.the-variants.{Given, Failed}
 use Rattle.writer.proofs.RoundTrip.{Sized, Back, stack-back, balance-back, meter-back}
-use Rattle.resource_state.specs.Next.{Gives, zero, given, kept, sum, difference, lesser as least, Makes, stack-of, balance-of, meter-of, Row, unlessRefused, amountFor, made, applied, textFrom, sheetOf, withAmount}
+use Rattle.resource_state.specs.Next.{Gives, zero, given, kept, sum, difference, lesser, Makes, stack-of, balance-of, meter-of, ApplyRow, unlessRefused, amountFor, made, applied, textFrom, sheetOf, withAmount}
 use Rattle.resource_state.specs.Apply.{stackApplies, balanceApplies, meterApplies, stackNext, balanceNext, meterNext, nextBy, nextOf}
 use Rattle.resource_state.specs.declared.Part.{Part}
 use Rattle.resource_state.specs.declared.Part.the-variants as Part
@@ -40,8 +40,9 @@ use Rattle.resource_state.specs.declared.ResourceState.{ResourceState}
 use Rattle.resource_state.specs.declared.ResourceState.the-variants.{ConsumableStack, FungibleBalance, MeteredResource}
 use Rattle.resource_state.specs.declared.Next.{Next}
 use Rattle.resource_state.specs.declared.Next.the-variants as Next
-use Rattle.transition.specs.Credit.{crediting, existing, unlessFailedBy, raised, creditedStack, creditedBalance, creditedAmount, creditBy, creditOf}
-use Rattle.transition.specs.Written.{Bytes, ShortTexts}
+use Rattle.transition.specs.Credit.{crediting, existing, unlessFailedBy, withMore, creditedStack, creditedBalance, creditedAmount, creditBy, creditOf}
+use Rattle.transition.specs.Written.{Bytes}
+use Rattle.transition.specs.Helpers.{ShortTexts}
 use Rattle.transition.proofs.Lengths.{state-is-short, input-is-short, call-is-short}
 use Rattle.transition.proofs.Sizes.{field-sized}
 
@@ -85,7 +86,7 @@ held-sized n (text t) h = zero-sized
 held-sized n (whole a) h = h a refl
 held-sized n other h = zero-sized
 
-lesser-sized : (o : Ordering) (a b : Amount) → Sized a → Sized b → Sized (lesser o a b)
+lesser-sized : (o : Ordering) (a b : Amount) → Sized a → Sized b → Sized (lesserBy o a b)
 lesser-sized Less a b x y = x
 lesser-sized Equal a b x y = y
 lesser-sized Greater a b x y = y
@@ -98,7 +99,7 @@ module _ (s i : List ℕ) (bytes : Bytes s) where
   amount-sized (kept n) = held-sized n (field s n) (field-sized s bytes n)
   amount-sized (sum h a) = if-sized _ Read.Overflow refl _ _ _
   amount-sized (difference h a) = if-sized _ Read.Underflow refl _ _ _
-  amount-sized (least a h) =
+  amount-sized (lesser a h) =
       lesser-sized (compareOf (readAmount (amountIn a (field i a))) (readAmount (amountOf h (field s h)))) _ _ (asked-sized a (field i a)) (held-sized h (field s h) (field-sized s bytes h))
 
 -- ---- the state that is written
@@ -130,14 +131,14 @@ module _ (s i : List ℕ) (bytes : Bytes s) (short : ShortTexts s × ShortTexts 
   made-written (meter-of x r m) = meter-back _ (text-short x) _ _ (amount-sized s i bytes r) (amount-sized s i bytes m)
 
   -- all rows of a profile make states of its kind
-  abbrev Alike : State → List Row → Type 0
+  abbrev Alike : State → List ApplyRow → Type 0
   Alike kind [] = Unit {0}
   Alike kind (r ∷ rs) = (kindMade (r .makes) ≡ kind) × Alike kind rs
 
   refused-no-state : {A : Type 0} (e : ProfileError) (n : ResourceState) → Next.Refused e ≡ Next.State n → A
   refused-no-state e n h = let z : _≡_ {A = ℕ} 0 1 = cc in absurd (omega arith)
 
-  applied-written : (kind : State) (op : ℕ) (rs : List Row) → Alike kind rs → (n : ResourceState) → applied amountIn (sightOf s) (field i) op rs ≡ Next.State n → WrittenAs s i kind n
+  applied-written : (kind : State) (op : ℕ) (rs : List ApplyRow) → Alike kind rs → (n : ResourceState) → applied amountIn (sightOf s) (field i) op rs ≡ Next.State n → WrittenAs s i kind n
   applied-written kind op [] a n h = refused-no-state UnknownOperation n h
   applied-written kind op (r ∷ rs) a n h = go (among op (r .operations)) (first amountIn (sightOf s) (field i) (r .tests)) (applied-written kind op rs (a .1) n) h
     where
@@ -183,7 +184,7 @@ written-back p op s i n bytes h = go (called p op s i) refl h
 
 -- ---- the far end of a transfer: of the operation's kind
 
-raised-sized : (r : Reading) (a : Amount) → Sized (readAmount (raised r a))
+raised-sized : (r : Reading) (a : Amount) → Sized (readAmount (withMore r a))
 unfolding sumOf
 raised-sized (Given held) a = if-sized _ Read.Overflow refl _ _ _
 raised-sized (Failed e) a = zero-sized
@@ -219,7 +220,7 @@ credit-written-back op s d i n h =
   where
     sized : (held asked : ℕ) → Sized (readAmount (creditedAmount amountIn (sightOf s) (sightOf d) (field i) held asked))
     sized held asked =
-        let r : Reading = raised (existing held (sightOf d)) (readAmount (amountIn asked (field i asked))) in
+        let r : Reading = withMore (existing held (sightOf d)) (readAmount (amountIn asked (field i asked))) in
         credited-sized (first amountIn (sightOf s) (field i) (crediting asked)) r (raised-sized (existing held (sightOf d)) (readAmount (amountIn asked (field i asked))))
 
     by : (t u : Bool) → ShortTexts s × ShortTexts i

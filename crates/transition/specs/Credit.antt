@@ -36,9 +36,9 @@ unlessFailedBy Accepted r = r
 unlessFailedBy (Refused e) r = Failed e
 
 -- what is there, and the amount more
-abbrev pub raised : Reading → Amount → Reading
-raised (Given held) a = plus held a
-raised (Failed e) a = Failed e
+abbrev pub withMore : Reading → Amount → Reading
+withMore (Given held) a = plus held a
+withMore (Failed e) a = Failed e
 
 -- the new subject is to_subject, the new unit the source's, the kind the operation's
 abbrev pub creditedStack : Amount → ResourceState
@@ -50,7 +50,7 @@ creditedBalance = balanceOf (Input to-subject) (State unit)
 module _ (read : ℕ → Field → Reading) (source destination : Sight) (inp : ℕ → Field) where
   abbrev pub creditedAmount : ℕ → ℕ → Reading
   creditedAmount held asked =
-      unlessFailedBy (first read source inp (crediting asked)) (raised (existing held destination) (readAmount (read asked (inp asked))))
+      unlessFailedBy (first read source inp (crediting asked)) (withMore (existing held destination) (readAmount (read asked (inp asked))))
 
   -- 5 or 15, else 19
   unfoldable pub creditBy : ℕ → Next

@@ -1,12 +1,11 @@
 -- Document 01, section "Operations", the answer of apply and credit: 20 last; a refusal writes nothing, an accepted call the first bytes only.
 use mathlib.Core.List.{List}
-use Prim.Native.Nat.{ℕ, _<_, _≤_}
+use Prim.Native.Nat.{ℕ, _<_}
 use lib.ListN.{length, getD}
 use Rattle.writer.specs.Encode.{putInto, putAnswer}
 use Rattle.sheet.specs.Fields.{field}
 use Rattle.writer.specs.declared.Put.{Put}
 use Rattle.writer.specs.declared.Put.the-variants as Put
-use Rattle.registry.specs.Readers.{bytesOf}
 use Rattle.registry.specs.Refusals.{zeroAmount, refusalOf}
 use Rattle.registry.specs.declared.error.ProfileError.the-variants.{Narrow}
 use Rattle.registry.specs.declared.error.Answer.{Answer}
@@ -16,11 +15,11 @@ use Rattle.resource_state.specs.declared.Next.{Next}
 use Rattle.resource_state.specs.declared.Next.the-variants as Next
 
 -- accepted: the length written
-abbrev pub acceptedOf : ℕ → Answer
-acceptedOf n = record { number = 0; detail = 0; available = zeroAmount; requested = zeroAmount; length = n }
+abbrev pub writtenOf : ℕ → Answer
+writtenOf n = record { number = 0; detail = 0; available = zeroAmount; requested = zeroAmount; length = n }
 
 abbrev pub putOf : Put → Answer
-putOf (Put.Done n) = acceptedOf n
+putOf (Put.Done n) = writtenOf n
 putOf Put.Narrow = refusalOf Narrow
 
 -- the answer, and the buffer at exit, of a next state whose texts stand in two sheets
@@ -41,12 +40,3 @@ bufferAfter (Next.Refused e) s i old = old
 -- what every slice of bytes is: a premise of theorems
 abbrev pub Bytes : List ℕ → Type 0
 Bytes s = (k : ℕ) → getD s k 0 < 256
-
--- For the private helpers: texts of at most 256 bytes, so that the length fits 16 bits.
-
-abbrev pub ShortTexts : List ℕ → Type 0
-ShortTexts s = (name : ℕ) → length (bytesOf (field s name)) ≤ 256
-
-abbrev pub PutFits : Put → Type 0
-PutFits (Put.Done n) = n < 65536
-PutFits Put.Narrow = 0 < 1

@@ -5,7 +5,8 @@ ghost use Rattle.sheet.specs.Fields.{field, sightOf};
 ghost use Rattle.resource_state.specs.Next.{textFrom};
 ghost use Rattle.resource_state.specs.Apply.{nextBy, nextOf};
 ghost use Rattle.transition.specs.Credit.{creditOf};
-ghost use Rattle.transition.specs.Written.{acceptedOf, putOf, PutFits, ShortTexts, stateAnswer, stateBuffer, answerTo, bufferAfter};
+ghost use Rattle.transition.specs.Written.{writtenOf, putOf, stateAnswer, stateBuffer, answerTo, bufferAfter};
+ghost use Rattle.transition.specs.Helpers.{PutFits, ShortTexts};
 
 mod transfer;
 
@@ -140,7 +141,7 @@ fn answered(put: Put) -> Answer
 }
 
 fn accepted(length: u16) -> Answer
-    ensures { λ r. ⌜ r ≡ acceptedOf length ⌝ }
+    ensures { λ r. ⌜ r ≡ writtenOf length ⌝ }
 {
     Answer {
         number: 0,

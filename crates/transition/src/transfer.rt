@@ -57,7 +57,12 @@ fn credited_amount(source: &[u8], destination: &[u8], input: &[u8], held: u8, as
     given_or(existing.checked_add(amount), ProfileError::Overflow)
 }
 
-pub fn transfer_after_state(operation: u8, source: &[u8], destination: &[u8], input: &[u8]) -> Next
+pub(crate) fn transfer_after_state(
+    operation: u8,
+    source: &[u8],
+    destination: &[u8],
+    input: &[u8],
+) -> Next
     ensures { λ r. ⌜ r ≡ creditBy amountIn (sightOf (now (source .entry))) (sightOf (now (destination .entry))) (field (now (input .entry))) operation ⌝ }
 {
     if operation == 5 {

@@ -11,7 +11,8 @@ use borrow.Author.Tests.{le-leb, lt-leb}
 use Rattle.sheet.specs.declared.Form.{Form}
 use Rattle.writer.specs.declared.Put.{Put}
 use Rattle.writer.specs.declared.Put.the-variants.{Done, Narrow}
-use Rattle.writer.specs.Encode.{over, overlay, encode, formItems, headOf, row, putInto, putAnswer}
+use Rattle.writer.specs.Encode.{over, encode, formItems, entryBytes, putInto, putAnswer}
+use Rattle.writer.specs.Helpers.{overlay, headOf}
 
 -- a copy of all of src
 pub pasted : (d : List ℕ) (at : ℕ) (src out : List ℕ) (i : ℕ) → i ≡ length src → out ≡ paste d at src i → out ≡ overlay d at src
@@ -33,7 +34,7 @@ three-length f x y z = omega (arith, length-append x (y ++ (z ++ [])), length-ap
 joined : (f : Form) (x y z : List ℕ) → headOf f (length x) (19 + length x) (length y) (19 + length x + length y) (length z) ++ x ++ y ++ z ≡ encode (formItems f x y z)
 unfolding encode
 joined f x y z =
-    ap (λ (r : List ℕ). 3 ∷ row 1 1 19 (length x) (row (f .second) (f .kind) (19 + length x) (length y) (row (f .third) 3 (19 + length x + length y) (length z) r)))
+    ap (λ (r : List ℕ). 3 ∷ entryBytes 1 1 19 (length x) (entryBytes (f .second) (f .kind) (19 + length x) (length y) (entryBytes (f .third) 3 (19 + length x + length y) (length z) r)))
     (append-assoc x y z ∙ ap (λ (r : List ℕ). x ++ (y ++ r)) (sym (append-nil z)))
 
 module _ (f : Form) (x y z old : List ℕ) where

@@ -11,18 +11,16 @@ use borrow.Author.Tests.{le-leb, eq-eqb}
 use Rattle.amount.specs.declared.Amount.{Amount}
 use Rattle.sheet.specs.declared.Entry.{Entry}
 use Rattle.sheet.specs.declared.Form.{Form}
-use Rattle.sheet.specs.declared.Shape.{Shape}
-use Rattle.sheet.specs.declared.Shape.the-variants.{Stack, Balance, Meter}
 use Rattle.sheet.specs.declared.State.{State}
 use Rattle.sheet.specs.declared.State.the-variants as State
-use Rattle.sheet.specs.Sheet.{entryAt, entriesFrom, table, partOf, lengthFits, soundAs, stateOf, stackForm, balanceForm, meterForm}
+use Rattle.sheet.specs.Sheet.{entryAt, entriesFrom, table, partOf, lengthFits, isForm, soundAs, stateOf, stackForm, balanceForm, meterForm}
 use Rattle.sheet.specs.Amounts.{amountAt, amountBytes}
 use Rattle.sheet.specs.Fields.{Field, text, whole, fieldOfKind, field, three}
 use Rattle.writer.specs.Encode.{encode, formItems, stackSheet, balanceSheet, meterSheet}
 use Rattle.writer.proofs.Copying.{three-length}
 use Rattle.writer.proofs.AmountBytes.{amount-back}
-use Rattle.sheet.proofs.Three.{three-fields, OfForm, a-stack, a-balance, a-meter, stack-is, balance-is, meter-is}
-use Rattle.sheet.proofs.Forms.{formed-sound}
+use Rattle.sheet.proofs.Three.{three-fields, stack-is, balance-is, meter-is}
+use Rattle.sheet.proofs.Forms.{formed-is}
 
 -- two bytes, low first, read back
 u16-back : (n : ℕ) → n < 65536 → n % 256 + 256 * (n / 256 % 256) ≡ n
@@ -84,10 +82,10 @@ module _ (f : Form) (x y z : List ℕ) (low : 19 + length x + length y < 65536) 
   fields-back name = three-fields sheet first second third table-back name ∙ rw (first-body, second-body, third-body)
 
   -- sound where each body has a length of its kind
-  pub sound-back : (shape : Shape) → OfForm shape f → length x ≤ 256 → lengthFits (f .kind) (length y) ≡ true → length z ≡ 17 → soundAs shape sheet ≡ true
+  sound-back : length x ≤ 256 → lengthFits (f .kind) (length y) ≡ true → length z ≡ 17 → isForm f sheet ≡ true
   unfolding encode
-  sound-back shape o lx ly l17 =
-      formed-sound shape f o sheet record {
+  sound-back lx ly l17 =
+      formed-is f sheet record {
         counted = refl;
         first = rw first-back record { named = refl; kinded = refl; long = le-leb (length x) 256 lx; place = refl };
         second = rw (second-back, first-back) record { named = refl; kinded = refl; long = ly; place = refl };
@@ -111,29 +109,29 @@ pub record Back (s : List ℕ) (kind : State) (view : ℕ → Field) : Type 0 wh
 module _ (x : List ℕ) (lx : length x ≤ 256) where
   module _ (y : List ℕ) (ly : length y ≤ 256) (a : Amount) (ha : Sized a) where
     pub stack-back : Back (stackSheet x y a) State.Stack (three 1 (text x) 2 (text y) 3 (whole a))
-    unfolding stackSheet
+    unfolding stackSheet soundAs
     stack-back =
         let z : List ℕ = amountBytes a in
         record {
-          is = stack-is _ (sound-back stackForm x y z (omega arith) (omega arith) Stack a-stack lx (le-leb _ _ ly) refl);
+          is = stack-is _ (sound-back stackForm x y z (omega arith) (omega arith) lx (le-leb _ _ ly) refl);
           fields = λ name. fields-back stackForm x y z (omega arith) (omega arith) name ∙ rw (read-back a ha);
         }
 
     pub balance-back : Back (balanceSheet x y a) State.Balance (three 1 (text x) 2 (text y) 4 (whole a))
-    unfolding balanceSheet
+    unfolding balanceSheet soundAs
     balance-back =
         let z : List ℕ = amountBytes a in
         record {
-          is = balance-is _ (sound-back balanceForm x y z (omega arith) (omega arith) Balance a-balance lx (le-leb _ _ ly) refl);
+          is = balance-is _ (sound-back balanceForm x y z (omega arith) (omega arith) lx (le-leb _ _ ly) refl);
           fields = λ name. fields-back balanceForm x y z (omega arith) (omega arith) name ∙ rw (read-back a ha);
         }
 
   pub meter-back : (r m : Amount) → Sized r → Sized m → Back (meterSheet x r m) State.Meter (three 1 (text x) 5 (whole r) 6 (whole m))
-  unfolding meterSheet
+  unfolding meterSheet soundAs
   meter-back r m hr hm =
       let y : List ℕ = amountBytes r in
       let z : List ℕ = amountBytes m in
       record {
-        is = meter-is _ (sound-back meterForm x y z (omega arith) (omega arith) Meter a-meter lx refl refl);
+        is = meter-is _ (sound-back meterForm x y z (omega arith) (omega arith) lx refl refl);
         fields = λ name. fields-back meterForm x y z (omega arith) (omega arith) name ∙ rw (read-back r hr, read-back m hm);
       }

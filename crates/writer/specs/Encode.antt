@@ -2,7 +2,7 @@
 use mathlib.Core.Bool.{cond}
 use mathlib.Core.List.{List, [], _∷_, _++_}
 use Prim.Native.Nat.{ℕ, _+_, _*_, _/_, _%_}
-use lib.ListN.{length, take, drop}
+use lib.ListN.{length, drop}
 use lib.Dec.{leb}
 use Rattle.amount.specs.declared.Amount.{Amount}
 use Rattle.sheet.specs.Amounts.{amountBytes}
@@ -18,13 +18,13 @@ pub record Item : Type 0 where
   pub body : List ℕ
 
 -- a table entry: name, kind, and the body's offset and length, 16 bits each; then `rest`
-abbrev pub row : ℕ → ℕ → ℕ → ℕ → List ℕ → List ℕ
-row name kind offset len rest = name ∷ kind ∷ offset % 256 ∷ offset / 256 % 256 ∷ len % 256 ∷ len / 256 % 256 ∷ rest
+abbrev pub entryBytes : ℕ → ℕ → ℕ → ℕ → List ℕ → List ℕ
+entryBytes name kind offset len rest = name ∷ kind ∷ offset % 256 ∷ offset / 256 % 256 ∷ len % 256 ∷ len / 256 % 256 ∷ rest
 
 -- the table, the first body starting at `at`, and then `rest`
-abbrev pub rows : ℕ → List Item → List ℕ → List ℕ
-rows at [] rest = rest
-rows at (i ∷ is) rest = row (i .name) (i .kind) at (length (i .body)) (rows (at + length (i .body)) is rest)
+abbrev pub tableBytes : ℕ → List Item → List ℕ → List ℕ
+tableBytes at [] rest = rest
+tableBytes at (i ∷ is) rest = entryBytes (i .name) (i .kind) at (length (i .body)) (tableBytes (at + length (i .body)) is rest)
 
 abbrev pub bodies : List Item → List ℕ
 bodies [] = []
@@ -32,7 +32,7 @@ bodies (i ∷ is) = i .body ++ bodies is
 
 -- the sheet of these fields
 unfoldable pub encode : List Item → List ℕ
-encode is = length is ∷ rows (1 + 6 * length is) is (bodies is)
+encode is = length is ∷ tableBytes (1 + 6 * length is) is (bodies is)
 
 abbrev pub item : ℕ → ℕ → List ℕ → Item
 item name kind body = record { name = name; kind = kind; body = body }
@@ -61,13 +61,3 @@ putInto w old = cond (leb (length w) (length old)) (over w old) old
 
 unfoldable pub putAnswer : List ℕ → List ℕ → Put
 putAnswer w old = cond (leb (length w) (length old)) (Done (length w)) Narrow
-
--- For the private helpers of the writer.
-
--- the count and the table of a sheet of three fields
-abbrev pub headOf : Form → ℕ → ℕ → ℕ → ℕ → ℕ → List ℕ
-headOf f x second y third z = 3 ∷ row 1 1 19 x (row (f .second) (f .kind) second y (row (f .third) 3 third z []))
-
--- src written at `at`
-abbrev pub overlay : List ℕ → ℕ → List ℕ → List ℕ
-overlay old at src = take at old ++ (src ++ drop (at + length src) old)

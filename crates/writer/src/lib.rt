@@ -2,7 +2,8 @@
 ghost use mathlib.Core.Path.{_≡_};
 ghost use Prim.Native.Nat.{_<_, _≤_, _+_, _/_, _%_};
 ghost use lib.ListN.{length};
-ghost use Rattle.writer.specs.Encode.{encode, formItems, stackSheet, balanceSheet, meterSheet, headOf, overlay, putInto, putAnswer};
+ghost use Rattle.writer.specs.Encode.{encode, formItems, stackSheet, balanceSheet, meterSheet, putInto, putAnswer};
+ghost use Rattle.writer.specs.Helpers.{headOf, overlay};
 use amount::Amount;
 use sheet::BALANCE_FORM;
 use sheet::Form;

@@ -1,5 +1,5 @@
 use Rattle.amount.proofs.Scaling.{reduce-start, places-none}
-use Rattle.amount.specs.Amounts.{ReducedBy}
+use Rattle.amount.specs.Helpers.{ReducedBy}
 use Rattle.amount.specs.Numbers.{val}
 use Prim.Native.Nat.{_-_, _≤_}
 use native.Mathlib.Omega.{arith}

@@ -38,7 +38,7 @@ use denote.Triple.Table.{entered, cited}
 use denote.Triple.Walked.{says, Stays, gave-ref, stay-none, walkOf, AllGo, goes-none, goes-gave-ref, Walks, ends-at, walked, walk-meets}
 use denote.Exit.{yes}
 use denote.Slice.{Room}
-use Rattle.book.specs.Refusals.{answerOf}
+use Rattle.book.specs.Refusals.{bookAnswerOf}
 use Rattle.book.specs.Steps.{answer, next}
 use Rattle.book.specs.declared.Book.{Book}
 use Rattle.registry.specs.declared.error.Answer.{Answer}
@@ -79,7 +79,7 @@ module _ {M : Type 1} (𝓤 : URA M) (H : Heap 𝓤) (A : Atoms 𝓤) (W : Given
   abbrev Post : Val → SProp 𝓤
   Post = walkOf 𝓤 H A f.ended stayed (f.clauses 𝓤 H A at-mem run) .post (((κ, tt), (q, tt), tt, x, at), tt)
 
-  exits : (a : Answer) (h′ : Book) → (a ≡ answerOf (answer h (withSheet st []))) × (h′ ≡ next h (withSheet st [])) → Is R.the-row a (answer-kind W .val a ∷ []) → ent 𝓤 (⋆ 𝓤 H A (‵ (fres γ (T.the-row .coded .code h′)) ∷ ‵ (flft κ q) ∷ [])) (Post (answer-kind W .val a))
+  exits : (a : Answer) (h′ : Book) → (a ≡ bookAnswerOf (answer h (withSheet st []))) × (h′ ≡ next h (withSheet st [])) → Is R.the-row a (answer-kind W .val a ∷ []) → ent 𝓤 (⋆ 𝓤 H A (‵ (fres γ (T.the-row .coded .code h′)) ∷ ‵ (flft κ q) ∷ [])) (Post (answer-kind W .val a))
   exits a h′ met is =
       qed W (‵ (fres γ (T.the-row .coded .code h′)) ∷ ‵ (flft κ q) ∷ []) ∵ nothing ! $ move ! (2 ∷ 0 ∷ []) $ join ! $
       suffices ! _ (ends-at 𝓤 H A f.ended stayed (f.clauses 𝓤 H A at-mem run) W (((κ, tt), (q, tt), tt, x, at), tt) (answer-kind W .val a) a (h′, (tt, tt)) (tt, (tt, tt))) $

@@ -41,7 +41,7 @@ use denote.Triple.Walked.{says, Stays, stay-ref, stay-none, stay-none-slice, wal
 use denote.Exit.{yes}
 use denote.Slice.{sliceVal, ShrSlice, slice-vals, shr-slice-tells, shr-slice-lawful, shr-slice-copy}
 use Rattle.amount.specs.declared.uint128.Uint128.{Uint128}
-use Rattle.book.specs.Refusals.{answerOf}
+use Rattle.book.specs.Refusals.{bookAnswerOf}
 use Rattle.book.specs.Book.{nameBytes, placeRecord, transferRecord, setBalance}
 use Rattle.book.specs.Steps.{answer, next}
 use Rattle.book.specs.declared.Book.{Book}
@@ -217,7 +217,7 @@ module _ {M : Type 1} (𝓤 : URA M) (H : Heap 𝓤) (A : Atoms 𝓤) (W : Given
   r₃ k z = setAmount (r₂ k z) (setMantissa (transferRecord h k .amount) (z .left .carried))
 
   abbrev Met : Answer → Book → Type 0
-  Met a h′ = (a ≡ answerOf (answer h (withSheet st (s .now)))) × (h′ ≡ next h (withSheet st (s .now)))
+  Met a h′ = (a ≡ bookAnswerOf (answer h (withSheet st (s .now)))) × (h′ ≡ next h (withSheet st (s .now)))
 
   ends : (k i j n : ℕ) (t : Total) (z : Turn) (w : Name) {a : Answer} → k ≡ transferOf st → i ≡ placeOf st (to k) → j ≡ destinationOf st → n ≡ length (nameBytes (subject j)) → t ≡ totalOf h
       → Takes (seen h k i n t) z → w ≡ subjectAfter st (z .number) (subject i) (s .now) → a ≡ answerIn z → Met a (left-in h k i w (z .left))

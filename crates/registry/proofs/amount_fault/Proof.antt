@@ -1,5 +1,5 @@
 use Rattle.registry.proofs.Readers.{fault-in-not}
-use Rattle.registry.specs.Readers.{faultIn}
+use Rattle.registry.specs.Helpers.{faultIn}
 use borrow.Author.Tests.{eq-eqb}
 use borrow.Author.Needs.{needs}
 use Rattle.registry.proofs.amount_fault.Statement.{statement}

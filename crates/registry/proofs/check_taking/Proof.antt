@@ -1,5 +1,3 @@
-use mathlib.Core.Path.{_∙_}
-use Rattle.registry.proofs.Tests.{asking-is}
 use borrow.Author.Needs.{needs}
 use Rattle.registry.proofs.check_taking.Statement.{statement}
 use Rattle.registry.proofs.check_taking.Tie as tie
@@ -29,7 +27,7 @@ require-asked-requires : tie.Need-require-asked-requires
 require-asked-requires c κs = search needs
 
 returns-3 : tie.Need-returns-3
-returns-3 c = rw (← c .before .before .before .before .before .before .require-current .ensures, c .before .before .before .before .enum-told .given .1, c .before .before .held .given .1) (c .require-asked .ensures ∙ asking-is _ _ _)
+returns-3 c = rw (← c .before .before .before .before .before .before .require-current .ensures, c .before .before .before .before .enum-told .given .1, c .before .before .held .given .1) (c .require-asked .ensures)
 
 pub check-taking-spec : {M : Type 1} → statement M
 check-taking-spec =

@@ -1,5 +1,3 @@
-use mathlib.Core.Path.{_∙_}
-use Rattle.registry.proofs.Tests.{asking-is}
 use borrow.Author.Needs.{needs}
 use Rattle.registry.proofs.check_taking_with.Statement.{statement}
 use Rattle.registry.proofs.check_taking_with.Tie as tie
@@ -41,7 +39,7 @@ require-asked-requires : tie.Need-require-asked-requires
 require-asked-requires c κs = search needs
 
 returns-4 : tie.Need-returns-4
-returns-4 c = rw (← c .before .before .before .before .before .before .before .before .before .require-current .ensures, c .before .before .before .before .before .before .before .enum-told .given .1, ← c .before .before .before .before .before .before .input-str .ensures, c .before .before .before .before .enum-told2 .given .1, c .before .before .held .given .1) (c .require-asked .ensures ∙ asking-is _ _ _)
+returns-4 c = rw (← c .before .before .before .before .before .before .before .before .before .require-current .ensures, c .before .before .before .before .before .before .before .enum-told .given .1, ← c .before .before .before .before .before .before .input-str .ensures, c .before .before .before .before .enum-told2 .given .1, c .before .before .held .given .1) (c .require-asked .ensures)
 
 pub check-taking-with-spec : {M : Type 1} → statement M
 check-taking-with-spec =

@@ -1,5 +1,5 @@
 use Rattle.registry.proofs.Readers.{read-in-not}
-use Rattle.registry.specs.Readers.{readIn}
+use Rattle.registry.specs.Helpers.{readIn}
 use borrow.Author.Tests.{eq-eqb}
 use borrow.Author.Needs.{needs}
 use Rattle.registry.proofs.parse_amount_str.Statement.{statement}

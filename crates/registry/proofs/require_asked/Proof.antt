@@ -1,4 +1,6 @@
+use mathlib.Core.Path.{_∙_}
 use borrow.Author.Needs.{needs}
+use Rattle.registry.proofs.Tests.{taking-given}
 use Rattle.registry.proofs.require_asked.Statement.{statement}
 use Rattle.registry.proofs.require_asked.Tie as tie
 
@@ -18,7 +20,7 @@ require-positive-available-requires : tie.Need-require-positive-available-requir
 require-positive-available-requires c κs = search needs
 
 returns-2 : tie.Need-returns-2
-returns-2 c = rw (← c .before .before .before .before .input-amount .ensures, c .before .before .a .given .1, ← c .require-positive-available .ensures)
+returns-2 c = rw (← c .before .before .before .before .input-amount .ensures, c .before .before .a .given .1) (c .require-positive-available .ensures ∙ taking-given _ _)
 
 pub require-asked-spec : {M : Type 1} → statement M
 require-asked-spec =

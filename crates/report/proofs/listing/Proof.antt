@@ -2,7 +2,8 @@ use borrow.Author.Needs.{needs}
 use mathlib.Core.Path.{ap, _∙_}
 use native.Mathlib.Omega.{arith}
 use denote.Ref.{now}
-use Rattle.report.specs.Listing.{listingOf, runText}
+use Rattle.report.specs.Listing.{listingOf}
+use Rattle.report.specs.Writing.{runText}
 use Rattle.report.proofs.Putting.{as-text}
 use Rattle.report.proofs.Fitting.{run-text, run-fits, too-short, all-fits}
 use Rattle.report.proofs.listing.Statement.{statement}

@@ -1,5 +1,5 @@
 use Rattle.amount.proofs.Scaling.{compare-same, compare-up, compare-reversed}
-use Rattle.amount.specs.Amounts.{reverseOf}
+use Rattle.amount.specs.Helpers.{reverseOf}
 use native.Mathlib.Omega.{arith}
 use mathlib.Core.Path.{_∙_, ap}
 use borrow.Author.Needs.{needs}

@@ -1,5 +1,4 @@
-use Rattle.audit.proofs.Sound.{PlacesSeen, TransfersSeen, no-places, open-place, closed-place, no-transfers, pending-transfer, idle-transfer}
-use Rattle.audit.proofs.Sound.{passed, unit-fails, place-scale-fails, subject-fails, transfer-scale-fails, ends-fail}
+use Rattle.audit.proofs.Sound.{PlacesSeen, TransfersSeen, no-places, open-place, closed-place, no-transfers, pending-transfer, idle-transfer, passed, unit-fails, place-scale-fails, subject-fails, transfer-scale-fails, ends-fail}
 use Rattle.book.specs.Book.{placeRecord, transferRecord, nameOk}
 use Prim.Native.Nat.{ℕ, _≤_, _-_}
 use mathlib.Core.Path.{_≡_, sym, subst, _∙_}

@@ -2,7 +2,7 @@ use mathlib.Core.Path.{ap}
 use Rattle.registry.specs.Refusals.{refusalOf}
 use Rattle.registry.specs.declared.error.ProfileError.{ProfileError}
 use Rattle.registry.proofs.Readers.{fault-in-not}
-use Rattle.registry.specs.Readers.{faultIn}
+use Rattle.registry.specs.Helpers.{faultIn}
 use borrow.Author.Tests.{eq-eqb}
 use borrow.Author.Needs.{needs}
 use Rattle.registry.proofs.asked.fault_number.Statement.{statement}

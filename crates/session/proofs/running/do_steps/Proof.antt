@@ -4,7 +4,7 @@ use mathlib.Core.Bool.{true}
 use Prim.Native.Nat.{_≤_, _<_, _+_, _-_}
 use native.Mathlib.Omega.{arith}
 use Rattle.book.specs.Book.{placeRecord, transferRecord}
-use Rattle.session.specs.Session.{count, good}
+use Rattle.session.specs.Session.{lineCount, good}
 use Rattle.steps.specs.Turn.{storedAt}
 use Rattle.steps.specs.declared.step.Step.{Step}
 use Rattle.session.proofs.Walking.{good-count}
@@ -18,7 +18,7 @@ use Rattle.session.proofs.running.do_steps.Tie as tie
 
 abbrev Inv-loop : tie.InvT-loop
 Inv-loop s first n total book₀ sum₀ answers₀ j₀ book sum answers j =
-    (j ≤ n) × (good s ≡ true) × (1 ≤ first) × (first + n ≤ count s) × Ran s (record { book = book₀ }) first (total .sound) book sum answers j
+    (j ≤ n) × (good s ≡ true) × (1 ≤ first) × (first + n ≤ lineCount s) × Ran s (record { book = book₀ }) first (total .sound) book sum answers j
 
 abbrev μ-loop : tie.MeasureT-loop
 μ-loop s first n total book₀ sum₀ answers₀ j₀ book sum answers j = n - j
@@ -37,7 +37,7 @@ abbrev its-round : tie.After-moved Inv-loop μ-loop → tie.In-loop Inv-loop μ-
 its-round c = its-entry (its-place (its-turn c) .before) .before
 
 -- the entry of a round is one of the session's
-later : (c : tie.In-loop Inv-loop μ-loop) → c .before .before .before .before .args .first + c .before .loop .j < count (c .before .before .before .before .args .s .now)
+later : (c : tie.In-loop Inv-loop μ-loop) → c .before .before .before .before .args .first + c .before .loop .j < lineCount (c .before .before .before .before .args .s .now)
 later c = omega (arith, c .before .loop .inv .3, c .loop-test .taken)
 
 few : (c : tie.In-loop Inv-loop μ-loop) → (c .before .loop .j < 255) × (c .before .before .before .before .args .first + c .before .loop .j < 256)

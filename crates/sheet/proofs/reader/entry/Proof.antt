@@ -43,7 +43,7 @@ use denote.Triple.Table.{entered, cited}
 use denote.Triple.Walked.{says, Stays, stay-none, walkOf, goes-none, Walks, ends-at, walked, walk-meets}
 use denote.Exit.{yes}
 use denote.Triple.Clauses.{ensured, lasts}
-use Rattle.sheet.specs.Visit.{stepOf}
+use Rattle.sheet.specs.Visit.{foundAt}
 use Rattle.sheet.specs.declared.reader.Reader.{Reader}
 use Rattle.sheet.specs.declared.reader.Step.{Step}
 use Rattle.sheet.proofs.reader.Reader as T
@@ -80,7 +80,7 @@ module _ {M : Type 1} (𝓤 : URA M) (H : Heap 𝓤) (A : Atoms 𝓤) (W : Given
   v = sliceVal (d .sheet .ptr) (length (d .sheet .now))
 
   abbrev found : Step
-  found = stepOf (now (d .sheet)) (d .next)
+  found = foundAt (now (d .sheet)) (d .next)
 
   abbrev Post : Val → SProp 𝓤
   Post = walkOf 𝓤 H A entry.ended stayed (entry.clauses 𝓤 H A mem run) .post (((κ, tt), (q, tt), tt, (d, tt), (mach ∷ [], tt)), tt)

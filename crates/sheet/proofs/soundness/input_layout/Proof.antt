@@ -1,17 +1,16 @@
 use borrow.Author.Needs.{needs}
 use borrow.Author.Tests.{not-true, not-false}
-use mathlib.Core.Path.{refl, sym, _∙_}
+use mathlib.Core.Path.{sym, _∙_}
 use Prim.Native.Nat.{_≤_, _+_, _*_, _-_}
 use native.Mathlib.Omega.{arith}
 use denote.Ref.{now}
-use Rattle.sheet.specs.declared.Shape.the-variants.{Input}
 use Rattle.sheet.specs.Sheet.{count}
 use Rattle.sheet.proofs.Walking.{Walked, walk-start, walk-turn, walk-torn, torn-entry, walk-end}
 use Rattle.sheet.proofs.soundness.input_layout.Statement.{statement}
 use Rattle.sheet.proofs.soundness.input_layout.Tie as tie
 
 abbrev Inv-loop : tie.InvT-loop
-Inv-loop s n at₀ last₀ k₀ at last k = (k ≤ n) × (at ≤ 1 + 6 * n + 65535 * k) × Walked Input s at last k
+Inv-loop s n at₀ last₀ k₀ at last k = (k ≤ n) × (at ≤ 1 + 6 * n + 65535 * k) × Walked s at last k
 
 abbrev μ-loop : tie.MeasureT-loop
 μ-loop s n at₀ last₀ k₀ at last k = n - k
@@ -29,7 +28,7 @@ add-at : tie.Need-add-at Inv-loop μ-loop
 add-at c = search needs
 
 loop-holds : tie.Need-loop-holds Inv-loop μ-loop
-loop-holds c = (search needs, search needs, rw (c .byte .ensures) (walk-start _ _))
+loop-holds c = (search needs, search needs, rw (c .byte .ensures) (walk-start _))
 
 entry-at-requires : tie.Need-entry-at-requires Inv-loop μ-loop
 entry-at-requires c κs = search needs
@@ -41,8 +40,8 @@ returns : tie.Need-returns Inv-loop μ-loop
 returns c =
     let b = c .before .before in
     let l = b .before .before in
-    sym (torn-entry _ _ refl
-    (walk-torn _ _ (b .entry-at .result) _ _ _ (l .loop .inv .2) (b .entry-at .ensures) (count (now (l .before .before .before .args .s))) (omega arith) (sym (c .before .entry-fits .ensures) ∙ not-true _ (c .if1 .taken))))
+    sym (torn-entry _
+    (walk-torn _ (b .entry-at .result) _ _ _ (l .loop .inv .2) (b .entry-at .ensures) (count (now (l .before .before .before .args .s))) (omega arith) (sym (c .before .entry-fits .ensures) ∙ not-true _ (c .if1 .taken))))
 
 cast-at : tie.Need-cast-at Inv-loop μ-loop
 cast-at c = search needs
@@ -62,7 +61,7 @@ loop-again c =
     let l = b .before .before in (
       search needs,
       search needs,
-      walk-turn _ _ (b .entry-at .result) _ _ _ (l .loop .inv .2) (b .entry-at .ensures) (sym (c .before .before .entry-fits .ensures) ∙ not-false _ (c .before .if1 .left)),
+      walk-turn _ (b .entry-at .result) _ _ _ (l .loop .inv .2) (b .entry-at .ensures) (sym (c .before .before .entry-fits .ensures) ∙ not-false _ (c .before .if1 .left)),
     )
 
 ending-requires : tie.Need-ending-requires Inv-loop μ-loop
@@ -71,7 +70,7 @@ ending-requires c κs = search needs
 returns-2 : tie.Need-returns-2 Inv-loop μ-loop
 returns-2 c =
     let l = c .before .before in
-    rw (walk-end Input (now (l .before .before .before .args .s)) refl _ _ _ (l .loop .inv .2) (omega arith)) (c .ending .ensures)
+    rw (walk-end (now (l .before .before .before .args .s)) _ _ _ (l .loop .inv .2) (omega arith)) (c .ending .ensures)
 
 pub input-layout-spec : {M : Type 1} → statement M
 input-layout-spec =

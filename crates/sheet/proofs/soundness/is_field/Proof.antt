@@ -18,7 +18,7 @@ body-fits-requires c κs = search needs
 returns-3 : tie.Need-returns-3
 unfolding isField
 returns-3 c =
-    rw (eq-eqb _ _ (c .before .before .before .if1 .left), eq-eqb _ _ (c .before .if2 .left)) (c .body-fits .ensures)
+    rw (eq-eqb _ _ (c .before .before .before .if1 .left), eq-eqb _ _ (c .before .if2 .left), ← c .before .if2 .left) (c .body-fits .ensures)
 
 pub is-field-spec : {M : Type 1} → statement M
 is-field-spec = tie.close (tie.spec returns returns-2 body-fits-requires returns-3)

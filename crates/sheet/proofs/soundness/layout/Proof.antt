@@ -1,7 +1,4 @@
-use Rattle.sheet.specs.declared.Shape.the-variants.{Stack, Balance, Meter}
-use Rattle.sheet.specs.Sheet.{stackForm, balanceForm, meterForm}
-use Rattle.sheet.proofs.Three.{a-stack, a-balance, a-meter}
-use Rattle.sheet.proofs.Forms.{form-is}
+use Rattle.sheet.specs.Sheet.{soundAs}
 use borrow.Author.Needs.{needs}
 use Rattle.sheet.proofs.soundness.layout.Statement.{statement}
 use Rattle.sheet.proofs.soundness.layout.Tie as tie
@@ -34,13 +31,16 @@ returns : tie.Need-returns
 returns c = rw (c .before .enum-told .given .1) (c .input-layout .ensures)
 
 returns-2 : tie.Need-returns-2
-returns-2 c = rw (c .before .enum-told2 .given .1, form-is Stack stackForm a-stack) (c .form-layout .ensures)
+unfolding soundAs
+returns-2 c = rw (c .before .enum-told2 .given .1) (c .form-layout .ensures)
 
 returns-3 : tie.Need-returns-3
-returns-3 c = rw (c .before .enum-told3 .given .1, form-is Balance balanceForm a-balance) (c .form-layout2 .ensures)
+unfolding soundAs
+returns-3 c = rw (c .before .enum-told3 .given .1) (c .form-layout2 .ensures)
 
 returns-4 : tie.Need-returns-4
-returns-4 c = rw (c .before .enum-told4 .given .1, form-is Meter meterForm a-meter) (c .form-layout3 .ensures)
+unfolding soundAs
+returns-4 c = rw (c .before .enum-told4 .given .1) (c .form-layout3 .ensures)
 
 pub layout-spec : {M : Type 1} → statement M
 layout-spec =

@@ -1,6 +1,6 @@
 use Rattle.steps.proofs.Tested.{unsound}
 use Rattle.steps.proofs.Turned.{refuses, arm}
-use Rattle.steps.specs.Turn.{amountOf, askedOf}
+use Rattle.steps.specs.Turn.{amountNamed, askedOf}
 use Rattle.book.specs.declared.error.BookError.the-variants.{BadBook}
 use borrow.Author.Tests.{not-true, not-false}
 use Prim.Native.Nat.{ℕ}
@@ -16,19 +16,19 @@ returns-2 : tie.Need-returns-2
 unfolding askedOf
 returns-2 c b v u =
     let sound = sym (v .sound) ∙ not-false _ (c .before .before .before .before .before .before .if1 .left) in
-    arm b _ _ _ (c .before .before .step .given .1) (λ w. c .«open» .ensures b sound w u (c .before .before .before .before .asked-of .ensures ∙ ap (λ (n : ℕ). askedOf n (c .before .before .before .before .before .before .before .before .before .args .sheet .now)) (c .before .before .before .before .before .amount-of .ensures ∙ ap amountOf (c .before .before .step .given .1)))) v
+    arm b _ _ _ (c .before .before .step .given .1) (λ w. c .«open» .ensures b sound w u (c .before .before .before .before .asked-of .ensures ∙ ap (λ (n : ℕ). askedOf n (c .before .before .before .before .before .before .before .before .before .args .sheet .now)) (c .before .before .before .before .before .amount-of .ensures ∙ ap amountNamed (c .before .before .step .given .1)))) v
 
 returns-3 : tie.Need-returns-3
 unfolding askedOf
 returns-3 c b v u =
     let sound = sym (v .sound) ∙ not-false _ (c .before .before .before .before .before .before .if1 .left) in
-    arm b _ _ _ (c .before .before .step2 .given .1) (λ w. c .act .ensures b sound w (c .before .before .before .before .asked-of .ensures ∙ ap (λ (n : ℕ). askedOf n (c .before .before .before .before .before .before .before .before .before .args .sheet .now)) (c .before .before .before .before .before .amount-of .ensures ∙ ap amountOf (c .before .before .step2 .given .1)))) v
+    arm b _ _ _ (c .before .before .step2 .given .1) (λ w. c .act .ensures b sound w (c .before .before .before .before .asked-of .ensures ∙ ap (λ (n : ℕ). askedOf n (c .before .before .before .before .before .before .before .before .before .args .sheet .now)) (c .before .before .before .before .before .amount-of .ensures ∙ ap amountNamed (c .before .before .step2 .given .1)))) v
 
 returns-4 : tie.Need-returns-4
 unfolding askedOf
 returns-4 c b v u =
     let sound = sym (v .sound) ∙ not-false _ (c .before .before .before .before .before .before .if1 .left) in
-    arm b _ _ _ (c .before .before .step3 .given .1) (λ w. c .begin .ensures b _ sound w (c .before .before .before .before .asked-of .ensures ∙ ap (λ (n : ℕ). askedOf n (c .before .before .before .before .before .before .before .before .before .args .sheet .now)) (c .before .before .before .before .before .amount-of .ensures ∙ ap amountOf (c .before .before .step3 .given .1)))) v
+    arm b _ _ _ (c .before .before .step3 .given .1) (λ w. c .begin .ensures b _ sound w (c .before .before .before .before .asked-of .ensures ∙ ap (λ (n : ℕ). askedOf n (c .before .before .before .before .before .before .before .before .before .args .sheet .now)) (c .before .before .before .before .before .amount-of .ensures ∙ ap amountNamed (c .before .before .step3 .given .1)))) v
 
 returns-5 : tie.Need-returns-5
 returns-5 c b v u =

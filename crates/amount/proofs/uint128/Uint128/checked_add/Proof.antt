@@ -1,5 +1,5 @@
 use Rattle.amount.proofs.Halves.{sum-halves}
-use Rattle.amount.specs.Numbers.{checked}
+use Rattle.amount.specs.Helpers.{checked}
 use mathlib.Core.Path.{_∙_, ap}
 use native.Mathlib.Omega.{arith}
 use borrow.Author.Needs.{needs}
