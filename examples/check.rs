@@ -2,11 +2,14 @@
 #[path = "../include/credits.rs"]
 #[allow(dead_code)]
 mod credits;
+use credits::*;
 
 fn main() {
-    let mut state = [0; 40];
-    state[..24].copy_from_slice(&[3, 1, 1, 19, 0, 2, 0, 2, 1, 21, 0, 2, 0, 4, 3, 23, 0, 17, 0, b'N', b'1', b'r', b'd', 5]);
-    let input = [1, 7, 1, 7, 0, 1, 0, b'3'];
-    let a = unsafe { credits::credits_check(2, 18, state.as_ptr(), state.len(), input.as_ptr(), input.len()) };
-    println!("number {} detail {}", a.number, a.detail);
+    let (mut state, mut input) = ([0; SHEET_MAX], [0; INPUT_MAX]);
+    let held = [Field::Text(FIELD_SUBJECT, b"N1"), Field::Text(FIELD_UNIT, b"rd"), Field::Whole(FIELD_BALANCE, 5)];
+    let state = build_state(&held, &mut state).expect("a sound state");
+    let input = build_input(&[Field::Whole(FIELD_AMOUNT, 3)], &mut input).expect("a sound input");
+
+    let a = check(PROFILE_BALANCE, BALANCE_SPEND, state, input);
+    println!("number {}: {}", a.number, word(a.number));
 }

@@ -1,4 +1,6 @@
-/* What the parts of the test of every entry share: differences and counts, comparing, sheets in words, steps, sessions. */
+/* What the parts of the test of every entry share: differences and counts, comparing, sheets in words, steps, sessions. The layout of
+ * sheets and sessions is written here once more, from document 01 and not from tools/layout.py, on purpose: a mistake in one is seen
+ * in the other. */
 #ifndef ENTRIES_H
 #define ENTRIES_H
 

@@ -1,12 +1,11 @@
 """Document 01's book, sessions and listing in Python, written from the document: what the tests hold the library to.
 
-A step answers (number, detail, available, requested); the last two are whole credits, 0 outside 15.
+A step answers (number, detail, available, requested); the last two are whole credits, 0 outside 15. The bytes of sheets and sessions are
+tools/layout.py's.
 """
-import struct
+from layout import *
 
 LIMIT = 1 << 128
-SUBJECT, UNIT, BALANCE, AMOUNT, TO_SUBJECT, AUTHORIZED_BY = 1, 2, 4, 7, 8, 10
-MOST_BYTES, MOST_ENTRIES = 16384, 256
 
 
 class Refused(Exception):
@@ -16,37 +15,12 @@ class Refused(Exception):
 
 # ---- sheets
 
-def sheet(*fields):
-    """The bytes of an input sheet of (name, kind, body); the caller sees to names that rise."""
-    table, bodies, at = b"", b"", 1 + 6 * len(fields)
-    for name, kind, body in fields:
-        table += struct.pack("<BBHH", name, kind, at, len(body))
-        bodies, at = bodies + body, at + len(body)
-    return bytes([len(fields)]) + table + bodies
-
-
 def input_sheet(data):
     """The fields of a sound input sheet as {name: body, None for no string}; 2 for a torn one."""
-    if not data:
+    try:
+        return {name: body if kind == TEXT else None for name, kind, body in read_sheet(data)}
+    except Fault:
         raise Refused(2)
-    count = data[0]
-    at, last, fields = 1 + 6 * count, 0, {}
-    if at > len(data):
-        raise Refused(2)
-    for k in range(count):
-        name, kind, offset, length = struct.unpack_from("<BBHH", data, 1 + 6 * k)
-        if not (last < name <= 10) or offset != at:
-            raise Refused(2)
-        if kind == 1 and length <= 256:
-            fields[name] = data[offset:offset + length]
-        elif kind == 2 and length == 0:
-            fields[name] = None
-        else:
-            raise Refused(2)
-        at, last = at + length, name
-    if at != len(data):
-        raise Refused(2)
-    return fields
 
 
 def text_in(fields, name):
@@ -224,31 +198,12 @@ def step(book, kind, a, b, t, body):
 
 # ---- sessions
 
-def session(entries):
-    """The bytes of a session of (kind, a, b, t, body)."""
-    table, bodies, at = b"", b"", 2 + 8 * len(entries)
-    for kind, a, b, t, body in entries:
-        table += struct.pack("<BBBBHH", kind, a, b, t, at & 0xFFFF, len(body))
-        bodies, at = bodies + body, at + len(body)
-    return struct.pack("<H", len(entries)) + table + bodies
-
-
 def entries_of(data):
     """The entries of a session, or None for a broken layout."""
-    if not 2 <= len(data) <= MOST_BYTES:
+    try:
+        return read_session(data)
+    except Fault:
         return None
-    (count,) = struct.unpack_from("<H", data)
-    at, entries = 2 + 8 * count, []
-    if not 1 <= count <= MOST_ENTRIES or at > len(data):
-        return None
-    for k in range(count):
-        kind, a, b, t, offset, length = struct.unpack_from("<BBBBHH", data, 2 + 8 * k)
-        unused = {0: (a, b, t), 1: (b, t), 2: (t,), 3: (), 4: (a, b, length)}.get(kind)
-        if unused is None or any(unused) or (kind == 0) != (k == 0) or offset != at:
-            return None
-        entries.append((kind, a, b, t, data[offset:offset + length]))
-        at += length
-    return entries if at == len(data) else None
 
 
 def run(data):

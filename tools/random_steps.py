@@ -1,5 +1,6 @@
-"""Random steps for tests: mostly steps that a book could take, now and then odd ones of every kind."""
-from ledger import *
+"""Random steps and sessions for tests: mostly steps that a book could take, now and then odd ones of every kind."""
+from layout import *
+from ledger import LIMIT, start, step
 
 SUBJECTS = [b"N1", b"N2", b"pier 7", b"\xff\x00", b"x" * 32]
 BIG = str(LIMIT - 1).encode()
@@ -53,3 +54,43 @@ def a_step(rng, book, k):
         other = field(rng, TO_SUBJECT, b"Z") if rng.random() < .2 else ()
         return 3, place(), place(), some(rng, 4, .04), torn(rng, sheet(*field(rng, AMOUNT, amount_text(rng)), *other))
     return 4, 0, 0, rng.choice(sorted(book.pending)) if book.pending and rng.random() < .7 else some(rng, 4, .04), b""
+
+
+def a_session(rng):
+    """The entries of a session; steps go by the book that they lead to."""
+    unit = rng.choice([b"rd"] * 40 + [b"", b"u" * 32, b"u" * 33])
+    _, book = start(unit)
+    entries = [(0, 0, 0, 0, unit)]
+    r = rng.random()
+    for k in range(rng.randrange(0, 10) if r < .96 else rng.randrange(10, 60) if r < .99 else rng.randrange(200, 262)):
+        entry = a_step(rng, book, k)
+        step(book, *entry)
+        entries.append(entry)
+    return entries
+
+
+def damaged(rng, entries):
+    """The bytes of the session with one thing wrong, often."""
+    how = rng.randrange(9)
+    k = rng.randrange(len(entries))
+    kind, a, b, t, body = entries[k]
+    if how == 0:
+        entries[k] = (rng.choice([0, 1, 2, 3, 4, 5, 6, 7, 10, 255]), a, b, t, body)
+    elif how == 1:
+        entries[k] = (kind, *[x if rng.random() < .6 else rng.randrange(256) for x in (a, b, t)], body)
+    elif how == 2:
+        entries[k] = (kind, a, b, t, body + bytes(rng.randrange(1, 4)))
+    elif how == 3:
+        entries.append((1, 0, 0, 0, bytes(rng.choice([16000, 16384, 17000]) - rng.randrange(400))))
+    data = bytearray(session(entries))
+    if how == 4:
+        data[rng.randrange(len(data))] ^= 1 << rng.randrange(8)
+    elif how == 5:
+        data = data[:rng.randrange(len(data) + 1)]
+    elif how == 6:
+        data += bytes(rng.randrange(1, 9))
+    elif how == 7:
+        data[rng.randrange(min(len(data), 2 + 8 * len(entries)))] = rng.randrange(256)
+    elif how == 8:
+        data = bytearray(rng.randbytes(rng.randrange(40)))
+    return bytes(data)

@@ -167,11 +167,11 @@ fn books() -> (Book, book::Book) {
     let mut c = unsafe { credits_book_start(b"rd".as_ptr(), 2) }.book;
     let mut h = book::Book::start(b"rd").expect("a unit");
     for p in 0..8 {
-        unsafe { credits_book_open(&mut c, p, open.as_ptr(), open.len()) };
+        unsafe { credits_book_open(&mut c, p, open.as_ptr(), open.len() as u64) };
         h.open(p, &open);
     }
     for t in 0..3 {
-        unsafe { credits_book_begin(&mut c, t, t + 1, t, three.as_ptr(), three.len()) };
+        unsafe { credits_book_begin(&mut c, t, t + 1, t, three.as_ptr(), three.len() as u64) };
         h.begin(t, t + 1, t, &three);
     }
     (c, h)
@@ -195,7 +195,7 @@ macro_rules! cells {
 }
 
 cells! {
-    read_library b { b.answered.0 = unsafe { credits_amount_read(DIGITS.as_ptr(), DIGITS.len()) }.number; }
+    read_library b { b.answered.0 = unsafe { credits_amount_read(DIGITS.as_ptr(), DIGITS.len() as u64) }.number; }
     read_decoded b { b.answered.0 = read_original_text(black_box(DIGITS.as_bytes())); }
     read_original b { b.answered.0 = u8::from(black_box(statechronicle_core::amount::Amount::try_from_str(black_box(DIGITS))).is_err()); }
     read_hand b { b.answered.0 = u8::from(black_box(direct::read(black_box(DIGITS.as_bytes()))).is_none()); }
@@ -215,7 +215,7 @@ cells! {
     text_hand b { b.answered.2 = black_box(direct::text(native(black_box(PRINTED)))).len; }
 
     check_library b {
-        let a = unsafe { credits_check(2, 18, b.state.as_ptr(), b.state.len(), b.spending.as_ptr(), b.spending.len()) };
+        let a = unsafe { credits_check(2, 18, b.state.as_ptr(), b.state.len() as u64, b.spending.as_ptr(), b.spending.len() as u64) };
         b.took(a);
     }
     check_decoded b {
@@ -230,7 +230,7 @@ cells! {
 
     apply_library b {
         let a = unsafe {
-            credits_apply(2, 15, b.state.as_ptr(), b.state.len(), b.sending.as_ptr(), b.sending.len(), b.out.as_mut_ptr(), 600)
+            credits_apply(2, 15, b.state.as_ptr(), b.state.len() as u64, b.sending.as_ptr(), b.sending.len() as u64, b.out.as_mut_ptr(), 600)
         };
         b.took(a);
     }
@@ -247,8 +247,8 @@ cells! {
     credit_library b {
         let a = unsafe {
             credits_credit(
-                15, b.state.as_ptr(), b.state.len(), b.destination.as_ptr(), b.destination.len(),
-                b.sending.as_ptr(), b.sending.len(), b.out.as_mut_ptr(), 600,
+                15, b.state.as_ptr(), b.state.len() as u64, b.destination.as_ptr(), b.destination.len() as u64,
+                b.sending.as_ptr(), b.sending.len() as u64, b.out.as_mut_ptr(), 600,
             )
         };
         b.took(a);
@@ -270,27 +270,27 @@ cells! {
         b.took_hand(a);
     }
 
-    open_library b { let a = unsafe { credits_book_open(&mut b.book, 8, b.opening.as_ptr(), b.opening.len()) }; b.took(a); }
+    open_library b { let a = unsafe { credits_book_open(&mut b.book, 8, b.opening.as_ptr(), b.opening.len() as u64) }; b.took(a); }
     open_hand b { let a = b.hand.open(black_box(8), &b.opening); b.took_hand(a); }
-    act_library b { let a = unsafe { credits_book_act(&mut b.book, 4, 18, b.spending.as_ptr(), b.spending.len()) }; b.took(a); }
+    act_library b { let a = unsafe { credits_book_act(&mut b.book, 4, 18, b.spending.as_ptr(), b.spending.len() as u64) }; b.took(a); }
     act_hand b { let a = b.hand.act(black_box(4), black_box(18), &b.spending); b.took_hand(a); }
     begin_library b {
-        let a = unsafe { credits_book_begin(&mut b.book, 4, 5, 3, b.spending.as_ptr(), b.spending.len()) };
+        let a = unsafe { credits_book_begin(&mut b.book, 4, 5, 3, b.spending.as_ptr(), b.spending.len() as u64) };
         b.took(a);
     }
     begin_hand b { let a = b.hand.begin(black_box(4), black_box(5), black_box(3), &b.spending); b.took_hand(a); }
     finish_library b { let a = unsafe { credits_book_finish(&mut b.book, 1) }; b.took(a); }
     finish_hand b { let a = b.hand.finish(black_box(1)); b.took_hand(a); }
 
-    run_library b { b.answered.2 = black_box(unsafe { credits_session_run(b.session.as_ptr(), b.session.len()) }).count; }
+    run_library b { b.answered.2 = black_box(unsafe { credits_session_run(b.session.as_ptr(), b.session.len() as u64) }).count; }
     run_hand b { b.answered.2 = black_box(book::run(&b.session)).map_or(0, |r| r.count as u16); }
     listing_library b {
-        b.answered.2 = unsafe { credits_session_listing(b.session.as_ptr(), b.session.len(), b.out.as_mut_ptr(), 4096) };
+        b.answered.2 = unsafe { credits_session_listing(b.session.as_ptr(), b.session.len() as u64, b.out.as_mut_ptr(), 4096) };
     }
     listing_hand b { b.answered.2 = book::listing(&b.session, &mut b.out) as u16; }
 
     check_growth b {
-        let a = unsafe { credits_check(2, 18, b.state.as_ptr(), b.state.len(), b.grown.as_ptr(), b.grown.len()) };
+        let a = unsafe { credits_check(2, 18, b.state.as_ptr(), b.state.len() as u64, b.grown.as_ptr(), b.grown.len() as u64) };
         b.took(a);
     }
     text_growth b {
@@ -404,7 +404,7 @@ fn main() {
             for steps in [4, 16, 64, 255] {
                 let s = session(steps);
                 let ns = time(|| {
-                    black_box(unsafe { credits_session_listing(s.as_ptr(), s.len(), b.out.as_mut_ptr(), 4096) });
+                    black_box(unsafe { credits_session_listing(s.as_ptr(), s.len() as u64, b.out.as_mut_ptr(), 4096) });
                 });
                 println!("{steps} {} {:.0}", s.len(), 1e9 / ns);
             }

@@ -114,12 +114,12 @@ mod linked {
         }
 
         // NULL where the part is empty and the case's fill is odd.
-        fn part(&mut self, at: usize, fill: u8) -> (*mut u8, usize) {
+        fn part(&mut self, at: usize, fill: u8) -> (*mut u8, u64) {
             let (from, n) = self.places[at];
             if n == 0 && fill & 1 == 1 {
                 return (std::ptr::null_mut(), 0);
             }
-            (self.arena[from..].as_mut_ptr(), n)
+            (self.arena[from..].as_mut_ptr(), n as u64)
         }
 
         // What changed outside the output buffer, which is the last part.

@@ -11,13 +11,14 @@ ghost use Rattle.amount.specs.Amounts.{givenOf, refusedOf, readOf, compa
 mod text;
 mod uint128;
 
+pub use text::TEXT_BYTES;
 pub use text::Text;
 pub use uint128::Checked;
 pub use uint128::Ordering;
 pub use uint128::Uint128;
-use uint128::divide;
+use uint128::div_rem;
+use uint128::mul_add;
 use uint128::power_of_ten;
-use uint128::times_plus;
 
 // The longest text that is read, in bytes: 2^128 - 1 has 39 digits.
 pub const MAX_MANTISSA_DIGITS: usize = 39;
@@ -97,7 +98,7 @@ impl Amount {
                 return AmountResult::NotWhole;
             };
             let power = power_of_ten((end - i) as u8) as u32;
-            let Checked::Some(next) = times_plus(mantissa, power, word as u32) else {
+            let Checked::Some(next) = mul_add(mantissa, power, word as u32) else {
                 return AmountResult::NotWhole;
             };
             mantissa = next;
@@ -116,9 +117,9 @@ impl Amount {
             return left.cmp(right);
         }
         if self.scale < other.scale {
-            return beside(left, right, other.scale - self.scale);
+            return cmp_rescaled(left, right, other.scale - self.scale);
         }
-        reverse(beside(right, left, self.scale - other.scale))
+        reverse(cmp_rescaled(right, left, self.scale - other.scale))
     }
 
     // The lesser by value; on a tie `other`.
@@ -292,7 +293,7 @@ fn reduce_by(r: Reduced, places: u8) -> Reduced
     requires { ⌜ places ≤ 9 ⌝ }
     ensures { λ s. ⌜ ((n j : ℕ) → ReducedBy n j r → ReducedBy n (j + places) s) ⌝ }
 {
-    let d = divide(r.quotient, power_of_ten(places) as u32);
+    let d = div_rem(r.quotient, power_of_ten(places) as u32);
     reduced_to(r, d.quotient, d.rest as u64)
 }
 
@@ -330,7 +331,7 @@ fn reduced_to(r: Reduced, quotient: Uint128, left: u64) -> Reduced
 }
 
 // How a mantissa stands to one of a scale that is `places` larger.
-fn beside(mantissa: Uint128, finer: Uint128, places: u8) -> Ordering
+fn cmp_rescaled(mantissa: Uint128, finer: Uint128, places: u8) -> Ordering
     ensures { λ o. ⌜ o ≡ orderOf (val mantissa * 10 ^ places) (val finer) ⌝ }
 {
     let r = reduce(finer, places);

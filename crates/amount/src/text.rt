@@ -7,13 +7,16 @@ ghost use Rattle.amount.specs.Numbers.{val};
 ghost use Rattle.amount.specs.Canonical.{strip, widthOf, lastDigits, zeros, asText, canonicalText};
 use super::Amount;
 use super::uint128::Uint128;
-use super::uint128::divide;
+use super::uint128::div_rem;
 use super::uint128::power_of_ten;
+
+// The longest text: a digit, a point and 255 digits behind it.
+pub const TEXT_BYTES: usize = 257;
 
 // A text: its first `len` bytes. The others are 0.
 #[repr(C)]
 pub struct Text {
-    pub bytes: [u8; 257],
+    pub bytes: [u8; TEXT_BYTES],
     pub len: u16,
 }
 
@@ -23,7 +26,7 @@ impl Amount {
     {
         let a = stripped(self);
         let mantissa = a.mantissa;
-        let mut bytes = [0u8; 257];
+        let mut bytes = [0u8; TEXT_BYTES];
         if a.scale == 0 {
             let len = width(mantissa);
             put_digits(&mut bytes, len, len, mantissa);
@@ -53,11 +56,11 @@ fn whole_part(mantissa: Uint128, places: u8) -> Uint128
     let mut number = mantissa;
     let mut left = places;
     while 9 < left {
-        let d = divide(number, 1_000_000_000);
+        let d = div_rem(number, 1_000_000_000);
         number = d.quotient;
         left -= 9;
     }
-    let d = divide(number, power_of_ten(left) as u32);
+    let d = div_rem(number, power_of_ten(left) as u32);
     d.quotient
 }
 
@@ -88,7 +91,7 @@ fn width(n: Uint128) -> usize
     let mut rest = n;
     let mut count: usize = 0;
     while 0 < rest.hi {
-        let d = divide(rest, 1_000_000_000);
+        let d = div_rem(rest, 1_000_000_000);
         rest = d.quotient;
         count += 9;
     }
@@ -120,7 +123,7 @@ fn put_digits(out: &mut [u8], at: usize, count: usize, n: Uint128)
     let mut rest = n;
     let mut k: usize = 0;
     while 0 < rest.hi {
-        let d = divide(rest, 1_000_000_000);
+        let d = div_rem(rest, 1_000_000_000);
         if count - k <= 9 {
             put_word(out, at - k, count - k, d.rest as u64);
             return;

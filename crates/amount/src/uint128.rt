@@ -131,14 +131,14 @@ impl Uint128 {
     pub(crate) fn times_ten_plus(self, digit: u8) -> Checked
         ensures { λ r. ⌜ r ≡ checked (val self * 10 + digit) ⌝ }
     {
-        times_plus(self, 10, digit as u32)
+        mul_add(self, 10, digit as u32)
     }
 
     // The tenth of the number, and its last digit.
     pub(crate) fn divide_by_ten(self) -> Divided
         ensures { λ r. ⌜ r ≡ tenths (val self) ⌝ }
     {
-        let d = divide(self, 10);
+        let d = div_rem(self, 10);
         let quotient = d.quotient;
         Divided {
             quotient,
@@ -147,8 +147,20 @@ impl Uint128 {
     }
 }
 
+// A word, and what passes it.
+struct Wide {
+    carry: u32,
+    low: u64,
+}
+
+// A word divided, and what is left.
+struct Part {
+    quotient: u64,
+    rest: u64,
+}
+
 // A number divided by one of 32 bits: the upper half, then the lower one with what that leaves.
-pub(crate) fn divide(n: Uint128, divisor: u32) -> Division
+pub(crate) fn div_rem(n: Uint128, divisor: u32) -> Division
     requires { ⌜ 0 < divisor ⌝ }
     ensures { λ r. ⌜ r ≡ divisionOf (val n) divisor ⌝ }
 {
@@ -201,6 +213,21 @@ pub(crate) fn power_of_ten(places: u8) -> u64
     }
 }
 
+// A number times one of 32 bits, and another more: the lower half, then the upper one with what passes that.
+pub(crate) fn mul_add(n: Uint128, factor: u32, add: u32) -> Checked
+    ensures { λ r. ⌜ r ≡ checked (val n * factor + add) ⌝ }
+{
+    let low = times_word(n.lo, factor, add);
+    let high = times_word(n.hi, factor, low.carry);
+    if 0 < high.carry {
+        return Checked::None;
+    }
+    Checked::Some(Uint128 {
+        hi: high.low,
+        lo: low.low,
+    })
+}
+
 // A number whose lower half is given, and whose upper half is a sum.
 fn joined(a: u64, b: u64, carry: u64, lo: u64) -> Checked
     ensures { λ r. ⌜ r ≡ checked ((a + b + carry) * 2 ^ 64 + lo) ⌝ }
@@ -215,27 +242,6 @@ fn joined(a: u64, b: u64, carry: u64, lo: u64) -> Checked
     Checked::Some(Uint128 { hi: hi + carry, lo })
 }
 
-// A number times one of 32 bits, and another more: the lower half, then the upper one with what passes that.
-pub(crate) fn times_plus(n: Uint128, factor: u32, add: u32) -> Checked
-    ensures { λ r. ⌜ r ≡ checked (val n * factor + add) ⌝ }
-{
-    let low = times_word(n.lo, factor, add);
-    let high = times_word(n.hi, factor, low.carry);
-    if 0 < high.carry {
-        return Checked::None;
-    }
-    Checked::Some(Uint128 {
-        hi: high.low,
-        lo: low.low,
-    })
-}
-
-// A word, and what passes it.
-struct Wide {
-    carry: u32,
-    low: u64,
-}
-
 // A word times a factor, and a number more, by halves of the word, so that no product leaves 64 bits.
 fn times_word(x: u64, factor: u32, add: u32) -> Wide
     ensures { λ r. ⌜ (r .carry * 2 ^ 64 + r .low ≡ x * factor + add) × (r .low < 2 ^ 64) ⌝ }
@@ -247,12 +253,6 @@ fn times_word(x: u64, factor: u32, add: u32) -> Wide
         carry: (second / 0x1_0000_0000) as u32,
         low: (second % 0x1_0000_0000) * 0x1_0000_0000 + first % 0x1_0000_0000,
     }
-}
-
-// A word divided, and what is left.
-struct Part {
-    quotient: u64,
-    rest: u64,
 }
 
 // A word with a number below the divisor before it, divided by halves of the word, so that nothing leaves 64 bits.

@@ -17,6 +17,7 @@ pub mod Steady
 pub mod Orders
 pub mod Worked
 pub mod AcceptedOrRefused
+pub mod PlainWorked
 pub mod Answers
 pub mod Effects
 pub mod Applies

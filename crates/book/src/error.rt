@@ -42,6 +42,16 @@ pub enum BookOutcome {
     Refused(BookError),
 }
 
+// The answer of a step.
+pub fn answer_of(o: BookOutcome) -> Answer
+    ensures { λ r. ⌜ r ≡ bookAnswerOf o ⌝ }
+{
+    match o {
+        BookOutcome::Accepted => plain(0, 0),
+        BookOutcome::Refused(e) => refusal(e),
+    }
+}
+
 // An answer with no amounts: nothing is short, and a step writes no sheet.
 fn plain(number: u8, detail: u8) -> Answer
     ensures { λ r. ⌜ r ≡ numbered number detail ⌝ }
@@ -69,15 +79,5 @@ fn refusal(e: BookError) -> Answer
         BookError::OtherUnit => plain(OTHER_UNIT, 0),
         BookError::LongName(name) => plain(LONG_NAME, name),
         BookError::BadBook => plain(BAD_BOOK, 0),
-    }
-}
-
-// The answer of a step.
-pub fn answer_of(o: BookOutcome) -> Answer
-    ensures { λ r. ⌜ r ≡ bookAnswerOf o ⌝ }
-{
-    match o {
-        BookOutcome::Accepted => plain(0, 0),
-        BookOutcome::Refused(e) => refusal(e),
     }
 }

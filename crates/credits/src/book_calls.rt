@@ -1,4 +1,4 @@
-// The book behind C: a book is lent and one step is done in it. Each entry is one call of `lent`, and its proof is tools/hand_on's.
+// The book behind C: a book is lent and one step is done in it. Each entry is one call of `lent`, and its proof is tools/proof/hand_on's.
 ghost use mathlib.Core.Path.{_≡_};
 ghost use Rattle.book.specs.Refusals.{bookAnswerOf};
 ghost use Rattle.book.specs.Steps.{Open, Act, Begin, Finish, answer, next, startAnswer, startBook};

@@ -11,8 +11,28 @@ ghost use Rattle.profiles.specs.Stack.{stackRules};
 use registry::error::Outcome;
 use registry::error::ProfileError;
 use registry::error::Reading;
+use registry::op;
 use sheet::QUANTITY;
 use sheet::TO_SUBJECT;
+
+// The operation's list; 4 where it is not of this profile.
+pub fn check(operation: u8, state: &[u8], input: &[u8]) -> Outcome
+    ensures { λ r. ⌜ r ≡ stackRules amountIn (sightOf (now (state .entry))) (field (now (input .entry))) operation ⌝ }
+{
+    let op = operation;
+    match op {
+        op::STACK_CREATE => check_create(state, input),
+        op::STACK_CREDIT => check_credit(state, input),
+        op::STACK_DEBIT => check_debit(state, input),
+        op::STACK_CONSUME => check_consume(state, input),
+        op::STACK_TRANSFER => check_transfer(state, input),
+        op::STACK_RESERVE => check_reserve(state, input),
+        op::STACK_RELEASE => check_release(state, input),
+        op::STACK_EXPIRE => check_expire(state),
+        op::STACK_ADJUST => check_adjust(state, input),
+        _ => Outcome::Refused(ProfileError::UnknownOperation),
+    }
+}
 
 fn check_create(state: &[u8], input: &[u8]) -> Outcome
     ensures { λ r. ⌜ r ≡ firstOf (now (state .entry)) (now (input .entry)) (creates quantity) ⌝ }
@@ -79,23 +99,4 @@ fn current_quantity(state: &[u8]) -> Reading
     ensures { λ r. ⌜ r ≡ amountOf quantity (field (now (state .entry)) quantity) ⌝ }
 {
     registry::state_amount(state, QUANTITY)
-}
-
-// The operation's list; 4 where it is not of this profile.
-pub fn check(operation: u8, state: &[u8], input: &[u8]) -> Outcome
-    ensures { λ r. ⌜ r ≡ stackRules amountIn (sightOf (now (state .entry))) (field (now (input .entry))) operation ⌝ }
-{
-    let op = operation;
-    match op {
-        1 => check_create(state, input),
-        2 => check_credit(state, input),
-        3 => check_debit(state, input),
-        4 => check_consume(state, input),
-        5 => check_transfer(state, input),
-        6 => check_reserve(state, input),
-        7 => check_release(state, input),
-        8 => check_expire(state),
-        9 => check_adjust(state, input),
-        _ => Outcome::Refused(ProfileError::UnknownOperation),
-    }
 }

@@ -8,11 +8,32 @@ ghost use Rattle.profiles.specs.Balance.{credited, debited, balanceRules
 use registry::error::Outcome;
 use registry::error::ProfileError;
 use registry::error::Reading;
+use registry::op;
 use sheet::AMOUNT;
 use sheet::AUTHORIZED_BY;
 use sheet::BALANCE;
 use sheet::TO_SUBJECT;
 use sheet::TO_UNIT;
+
+// The operation's list; 4 where it is not of this profile.
+pub fn check(operation: u8, state: &[u8], input: &[u8]) -> Outcome
+    ensures { λ r. ⌜ r ≡ balanceRules amountIn (sightOf (now (state .entry))) (field (now (input .entry))) operation ⌝ }
+{
+    let op = operation;
+    match op {
+        op::BALANCE_CREATE => check_create(state, input),
+        op::BALANCE_MINT => check_mint(state, input),
+        op::BALANCE_CREDIT => check_credit(state, input),
+        op::BALANCE_DEBIT => check_debit(state, input),
+        op::BALANCE_TRANSFER => check_transfer(state, input),
+        op::BALANCE_RESERVE => check_reserve(state, input),
+        op::BALANCE_RELEASE => check_release(state, input),
+        op::BALANCE_SPEND => check_spend(state, input),
+        op::BALANCE_BURN => check_burn(state, input),
+        op::BALANCE_CONVERT => check_convert(state, input),
+        _ => Outcome::Refused(ProfileError::UnknownOperation),
+    }
+}
 
 fn check_create(state: &[u8], input: &[u8]) -> Outcome
     ensures { λ r. ⌜ r ≡ firstOf (now (state .entry)) (now (input .entry)) (creates balance) ⌝ }
@@ -89,7 +110,7 @@ fn current_balance(state: &[u8]) -> Reading
     registry::state_amount(state, BALANCE)
 }
 
-// In amount, st balance, 14: what mint, credit and release have in common.
+// The amount asked for and the balance are readable, and the first is not zero (refusal 14): what mint, credit and release share.
 fn require_credited(state: &[u8], input: &[u8]) -> Outcome
     ensures { λ r. ⌜ r ≡ firstOf (now (state .entry)) (now (input .entry)) (credited) ⌝ }
 {
@@ -101,24 +122,4 @@ fn require_credited(state: &[u8], input: &[u8]) -> Outcome
         return Outcome::Refused(e);
     }
     registry::require_positive(amount)
-}
-
-// The operation's list; 4 where it is not of this profile.
-pub fn check(operation: u8, state: &[u8], input: &[u8]) -> Outcome
-    ensures { λ r. ⌜ r ≡ balanceRules amountIn (sightOf (now (state .entry))) (field (now (input .entry))) operation ⌝ }
-{
-    let op = operation;
-    match op {
-        11 => check_create(state, input),
-        12 => check_mint(state, input),
-        13 => check_credit(state, input),
-        14 => check_debit(state, input),
-        15 => check_transfer(state, input),
-        16 => check_reserve(state, input),
-        17 => check_release(state, input),
-        18 => check_spend(state, input),
-        19 => check_burn(state, input),
-        20 => check_convert(state, input),
-        _ => Outcome::Refused(ProfileError::UnknownOperation),
-    }
 }

@@ -8,8 +8,10 @@ pub mod meter;
 
 use registry::error::Outcome;
 use registry::error::ProfileError;
+use registry::op;
 
-// Whether an operation of a profile may be done on a state with an input: 1, 2, 3, then the profile's lists, which give 4.
+// Whether an operation of a profile may be done on a state with an input: refusals 1 to 3, then the profile's
+// lists, which give 4.
 pub fn check(profile: u8, operation: u8, state: &[u8], input: &[u8]) -> Outcome
     ensures { λ r. ⌜ r ≡ checkOf profile operation (now (state .entry)) (now (input .entry)) ⌝ }
 {
@@ -20,9 +22,9 @@ pub fn check(profile: u8, operation: u8, state: &[u8], input: &[u8]) -> Outcome
         return Outcome::Refused(e);
     }
     match profile {
-        1 => consumable_stack::check(operation, state, input),
-        2 => fungible_balance::check(operation, state, input),
-        3 => meter::check(operation, state, input),
+        op::STACK => consumable_stack::check(operation, state, input),
+        op::BALANCE => fungible_balance::check(operation, state, input),
+        op::METER => meter::check(operation, state, input),
         _ => Outcome::Refused(ProfileError::UnknownProfile),
     }
 }

@@ -12,10 +12,27 @@ ghost use Rattle.profiles.specs.Meter.{meterRules};
 use registry::error::Outcome;
 use registry::error::ProfileError;
 use registry::error::Reading;
+use registry::op;
 use sheet::AMOUNT;
 use sheet::MAXIMUM;
 use sheet::REMAINING;
 use sheet::SUBJECT;
+
+// The operation's list; 4 where it is not of this profile.
+pub fn check(operation: u8, state: &[u8], input: &[u8]) -> Outcome
+    ensures { λ r. ⌜ r ≡ meterRules amountIn (sightOf (now (state .entry))) (field (now (input .entry))) operation ⌝ }
+{
+    let op = operation;
+    match op {
+        op::METER_CREATE => check_create(state, input),
+        op::METER_CONSUME => check_consume(state, input),
+        op::METER_REFILL => check_refill(state),
+        op::METER_SET_MAXIMUM => check_set_maximum(state, input),
+        op::METER_RESET => check_reset(state),
+        op::METER_EXPIRE => check_expire(state),
+        _ => Outcome::Refused(ProfileError::UnknownOperation),
+    }
+}
 
 fn check_create(state: &[u8], input: &[u8]) -> Outcome
     ensures { λ r. ⌜ r ≡ firstOf (now (state .entry)) (now (input .entry)) (unborn ∷ in-text subject ∷ in-amount remaining ∷ in-amount maximum ∷ up-to-maximum remaining maximum ∷ []) ⌝ }
@@ -86,20 +103,4 @@ fn current_maximum(state: &[u8]) -> Reading
     ensures { λ r. ⌜ r ≡ amountOf maximum (field (now (state .entry)) maximum) ⌝ }
 {
     registry::state_amount(state, MAXIMUM)
-}
-
-// The operation's list; 4 where it is not of this profile.
-pub fn check(operation: u8, state: &[u8], input: &[u8]) -> Outcome
-    ensures { λ r. ⌜ r ≡ meterRules amountIn (sightOf (now (state .entry))) (field (now (input .entry))) operation ⌝ }
-{
-    let op = operation;
-    match op {
-        21 => check_create(state, input),
-        22 => check_consume(state, input),
-        23 => check_refill(state),
-        24 => check_set_maximum(state, input),
-        25 => check_reset(state),
-        26 => check_expire(state),
-        _ => Outcome::Refused(ProfileError::UnknownOperation),
-    }
 }

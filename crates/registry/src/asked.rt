@@ -23,40 +23,6 @@ pub struct Asked {
     pub amount: Uint128,
 }
 
-fn failed(sound: bool, number: u8, detail: u8) -> Asked
-    ensures { λ r. ⌜ r ≡ record { sound = sound; number = number; detail = detail; amount = record { hi = 0; lo = 0 } } ⌝ }
-{
-    Asked {
-        sound,
-        number,
-        detail,
-        amount: Uint128::ZERO,
-    }
-}
-
-// 2.
-fn is_input(input: &[u8]) -> bool
-    ensures { λ r. ⌜ r ≡ isSound (verdictOf Input (now (input .entry))) ⌝ }
-{
-    let Outcome::Accepted = super::require_sound_input(input) else {
-        return false;
-    };
-    true
-}
-
-// Why an entry is no readable amount: 11 for a text with a point or an exponent's mark, before 10.
-fn fault_number(input: &[u8], e: Entry) -> u8
-    ensures { λ r. ⌜ ((name : ℕ) → r ≡ refusalOf (faultIn name (fieldOf (now (input .entry)) (At e))) .number) ⌝ }
-{
-    if e.kind != sheet::KIND_TEXT {
-        return error::NOT_WHOLE;
-    }
-    if super::is_float(sheet::entry_body(input, e)) {
-        return error::FLOAT_FORBIDDEN;
-    }
-    error::NOT_WHOLE
-}
-
 // What a sheet asks: whether it is an input, and its amount of that name.
 pub fn asked_in(input: &[u8], name: u8) -> Asked
     ensures { λ r. ⌜ r ≡ askedIn name (now (input .entry)) ⌝ }
@@ -77,7 +43,7 @@ pub fn asked_in(input: &[u8], name: u8) -> Asked
     }
 }
 
-// The number of a text: 0 where an input holds one that is not empty, else 7, 8 or 9.
+// The number of a text: 0 where an input holds one that is not empty, else refusal 7, 8 or 9.
 pub fn text_number(input: &[u8], name: u8) -> u8
     ensures { λ r. ⌜ r ≡ textNumber (field (now (input .entry)) name) ⌝ }
 {
@@ -92,4 +58,38 @@ pub fn text_number(input: &[u8], name: u8) -> u8
         return error::EMPTY;
     }
     0
+}
+
+fn failed(sound: bool, number: u8, detail: u8) -> Asked
+    ensures { λ r. ⌜ r ≡ record { sound = sound; number = number; detail = detail; amount = record { hi = 0; lo = 0 } } ⌝ }
+{
+    Asked {
+        sound,
+        number,
+        detail,
+        amount: Uint128::ZERO,
+    }
+}
+
+// Refusal 2: the layout of the input is broken.
+fn is_input(input: &[u8]) -> bool
+    ensures { λ r. ⌜ r ≡ isSound (verdictOf Input (now (input .entry))) ⌝ }
+{
+    let Outcome::Accepted = super::require_sound_input(input) else {
+        return false;
+    };
+    true
+}
+
+// Why an entry is no readable amount: refusal 11 for a text with a point or an exponent's mark, else 10.
+fn fault_number(input: &[u8], e: Entry) -> u8
+    ensures { λ r. ⌜ ((name : ℕ) → r ≡ refusalOf (faultIn name (fieldOf (now (input .entry)) (At e))) .number) ⌝ }
+{
+    if e.kind != sheet::KIND_TEXT {
+        return error::NOT_WHOLE;
+    }
+    if super::is_float(sheet::entry_body(input, e)) {
+        return error::FLOAT_FORBIDDEN;
+    }
+    error::NOT_WHOLE
 }

@@ -17,6 +17,7 @@ ghost use Rattle.registry.specs.Call.{stateSound, inputSound, profileOf,
 
 pub mod asked;
 pub mod error;
+pub mod op;
 
 use amount::Amount;
 use amount::AmountResult;
@@ -27,36 +28,7 @@ use error::Reading;
 use sheet::Entry;
 use sheet::Found;
 
-// The profile that an operation is of; 0 for none.
-fn profile_of(operation: u8) -> u8
-    ensures { λ r. ⌜ r ≡ profileOf operation ⌝ }
-{
-    let op = operation;
-    match op {
-        1..=9 => 1,
-        11..=20 => 2,
-        21..=26 => 3,
-        _ => 0,
-    }
-}
-
-// 3, then 4.
-fn require_operation(profile: u8, operation: u8) -> Outcome
-    ensures { λ r. ⌜ r ≡ operationOf profile operation ⌝ }
-{
-    if profile < 1 {
-        return Outcome::Refused(ProfileError::UnknownProfile);
-    }
-    if 3 < profile {
-        return Outcome::Refused(ProfileError::UnknownProfile);
-    }
-    if profile_of(operation) != profile {
-        return Outcome::Refused(ProfileError::UnknownOperation);
-    }
-    Outcome::Accepted
-}
-
-// 1, of the source or the destination.
+// Refusal 1: the layout of a state is broken, `which` says of which.
 pub fn require_sound_state(state: &[u8], which: u8) -> Outcome
     ensures { λ r. ⌜ r ≡ stateSound which (stateOf (now (state .entry))) ⌝ }
 {
@@ -69,7 +41,7 @@ pub fn require_sound_state(state: &[u8], which: u8) -> Outcome
     }
 }
 
-// 2.
+// Refusal 2: the layout of the input is broken.
 pub fn require_sound_input(input: &[u8]) -> Outcome
     ensures { λ r. ⌜ r ≡ inputSound (verdictOf Input (now (input .entry))) ⌝ }
 {
@@ -79,7 +51,7 @@ pub fn require_sound_input(input: &[u8]) -> Outcome
     }
 }
 
-// What every call on a state and an input tests first: 1, 2, 3, 4.
+// What every call on a state and an input tests first: refusals 1 to 4.
 pub fn require_call(profile: u8, operation: u8, state: &[u8], input: &[u8]) -> Outcome
     ensures { λ r. ⌜ r ≡ called profile operation (now (state .entry)) (now (input .entry)) ⌝ }
 {
@@ -92,7 +64,7 @@ pub fn require_call(profile: u8, operation: u8, state: &[u8], input: &[u8]) -> O
     require_operation(profile, operation)
 }
 
-// 6.
+// Refusal 6: the state is absent.
 pub fn require_current(state: &[u8]) -> Outcome
     ensures { λ r. ⌜ r ≡ stateThere (not (eqb (length (now (state .entry))) 0)) ⌝ }
 {
@@ -102,7 +74,7 @@ pub fn require_current(state: &[u8]) -> Outcome
     Outcome::Accepted
 }
 
-// 5.
+// Refusal 5: there is a state already.
 pub fn require_unborn(state: &[u8]) -> Outcome
     ensures { λ r. ⌜ r ≡ stateAbsent (not (eqb (length (now (state .entry))) 0)) ⌝ }
 {
@@ -159,27 +131,6 @@ pub fn text(s: &[u8], name: u8) -> &[u8]
     sheet::entry_body(s, e)
 }
 
-// Whether a text holds a point or an exponent's mark.
-fn is_float(text: &[u8]) -> bool
-    ensures { λ r. ⌜ r ≡ marked (now (text .entry)) ⌝ }
-{
-    let mut i = 0;
-    while i < text.len() {
-        let b = text[i];
-        if b == b'.' {
-            return true;
-        }
-        if b == b'e' {
-            return true;
-        }
-        if b == b'E' {
-            return true;
-        }
-        i += 1;
-    }
-    false
-}
-
 // The amount, or the refusal where there is none.
 pub fn given_or(o: AmountResult, e: ProfileError) -> Reading
     ensures { λ r. ⌜ r ≡ givenOr e o ⌝ }
@@ -198,19 +149,6 @@ pub(crate) fn parse_amount_str(input: &[u8], e: Entry) -> AmountResult
         return AmountResult::NotWhole;
     }
     Amount::try_from_str(sheet::entry_body(input, e))
-}
-
-// Why it is none: 11 for a text with a point or an exponent's mark, before 10.
-fn amount_fault(input: &[u8], e: Entry, name: u8) -> ProfileError
-    ensures { λ r. ⌜ r ≡ faultIn name (fieldOf (now (input .entry)) (At e)) ⌝ }
-{
-    if e.kind != sheet::KIND_TEXT {
-        return ProfileError::NotWhole(name);
-    }
-    if is_float(sheet::entry_body(input, e)) {
-        return ProfileError::FloatForbidden(name);
-    }
-    ProfileError::NotWhole(name)
 }
 
 // An amount that an input gives as text.
@@ -239,7 +177,7 @@ pub fn state_amount(state: &[u8], name: u8) -> Reading
     Reading::Given(sheet::amount_at(sheet::entry_body(state, e), 0))
 }
 
-// 14.
+// Refusal 14: the amount is zero.
 pub fn require_positive(amount: Amount) -> Outcome
     ensures { λ r. ⌜ r ≡ aboveZero amount ⌝ }
 {
@@ -249,54 +187,11 @@ pub fn require_positive(amount: Amount) -> Outcome
     Outcome::Accepted
 }
 
-// A refusal where one amount is less than another, and none on a tie.
-fn unless_less(o: Ordering, e: ProfileError) -> Outcome
-    ensures { λ r. ⌜ r ≡ unlessLess o e ⌝ }
-{
-    match o {
-        Ordering::Less => Outcome::Refused(e),
-        Ordering::Equal => Outcome::Accepted,
-        Ordering::Greater => Outcome::Accepted,
-    }
-}
-
-// 15.
-fn require_available(requested: Amount, available: Amount) -> Outcome
-    ensures { λ r. ⌜ r ≡ heldBy available requested ⌝ }
-{
-    let short = ProfileError::InsufficientQuantity {
-        available,
-        requested,
-    };
-    unless_less(available.cmp(requested), short)
-}
-
-// 14, then 15.
-fn require_positive_available(requested: Amount, available: Amount) -> Outcome
-    ensures { λ r. ⌜ r ≡ (aboveZero requested then heldBy available requested) ⌝ }
-{
-    if let Outcome::Refused(e) = require_positive(requested) {
-        return Outcome::Refused(e);
-    }
-    require_available(requested, available)
-}
-
-// 16.
+// Refusal 16: remaining is above the maximum.
 pub fn require_up_to(amount: Amount, maximum: Amount) -> Outcome
     ensures { λ r. ⌜ r ≡ upTo amount maximum ⌝ }
 {
     unless_less(maximum.cmp(amount), ProfileError::OverMaximum)
-}
-
-// In asked, 14, 15, against what is held.
-fn require_asked(input: &[u8], available: Amount, asked: u8) -> Outcome
-    ensures { λ r. ⌜ r ≡ taking (Given available) (amountIn asked (field (now (input .entry)) asked)) ⌝ }
-{
-    let requested = match input_amount(input, asked) {
-        Reading::Given(a) => a,
-        Reading::Failed(e) => return Outcome::Refused(e),
-    };
-    require_positive_available(requested, available)
 }
 
 // What all that take from an amount test. A profile reads what is held.
@@ -360,4 +255,110 @@ pub fn check_setting(state: &[u8], input: &[u8], name: u8) -> Outcome
         return Outcome::Refused(e);
     }
     Outcome::Accepted
+}
+
+// The profile that an operation is of; 0 for none.
+fn profile_of(operation: u8) -> u8
+    ensures { λ r. ⌜ r ≡ profileOf operation ⌝ }
+{
+    let op = operation;
+    match op {
+        op::STACK_CREATE..=op::STACK_ADJUST => op::STACK,
+        op::BALANCE_CREATE..=op::BALANCE_CONVERT => op::BALANCE,
+        op::METER_CREATE..=op::METER_EXPIRE => op::METER,
+        _ => 0,
+    }
+}
+
+// Refusal 3: no such profile; then 4: no operation of it.
+fn require_operation(profile: u8, operation: u8) -> Outcome
+    ensures { λ r. ⌜ r ≡ operationOf profile operation ⌝ }
+{
+    if profile < op::STACK {
+        return Outcome::Refused(ProfileError::UnknownProfile);
+    }
+    if op::METER < profile {
+        return Outcome::Refused(ProfileError::UnknownProfile);
+    }
+    if profile_of(operation) != profile {
+        return Outcome::Refused(ProfileError::UnknownOperation);
+    }
+    Outcome::Accepted
+}
+
+// Whether a text holds a point or an exponent's mark.
+fn is_float(text: &[u8]) -> bool
+    ensures { λ r. ⌜ r ≡ marked (now (text .entry)) ⌝ }
+{
+    let mut i = 0;
+    while i < text.len() {
+        let b = text[i];
+        if b == b'.' {
+            return true;
+        }
+        if b == b'e' {
+            return true;
+        }
+        if b == b'E' {
+            return true;
+        }
+        i += 1;
+    }
+    false
+}
+
+// Why the value of an entry is no amount: refusal 11 for a text with a point or an exponent's mark, else 10.
+fn amount_fault(input: &[u8], e: Entry, name: u8) -> ProfileError
+    ensures { λ r. ⌜ r ≡ faultIn name (fieldOf (now (input .entry)) (At e)) ⌝ }
+{
+    if e.kind != sheet::KIND_TEXT {
+        return ProfileError::NotWhole(name);
+    }
+    if is_float(sheet::entry_body(input, e)) {
+        return ProfileError::FloatForbidden(name);
+    }
+    ProfileError::NotWhole(name)
+}
+
+// A refusal where one amount is less than another, and none on a tie.
+fn unless_less(o: Ordering, e: ProfileError) -> Outcome
+    ensures { λ r. ⌜ r ≡ unlessLess o e ⌝ }
+{
+    match o {
+        Ordering::Less => Outcome::Refused(e),
+        Ordering::Equal => Outcome::Accepted,
+        Ordering::Greater => Outcome::Accepted,
+    }
+}
+
+// Refusal 15: more is asked for than is held.
+fn require_available(requested: Amount, available: Amount) -> Outcome
+    ensures { λ r. ⌜ r ≡ heldBy available requested ⌝ }
+{
+    let short = ProfileError::InsufficientQuantity {
+        available,
+        requested,
+    };
+    unless_less(available.cmp(requested), short)
+}
+
+// Refusal 14: the amount is zero; then 15: it is above what is held.
+fn require_positive_available(requested: Amount, available: Amount) -> Outcome
+    ensures { λ r. ⌜ r ≡ (aboveZero requested then heldBy available requested) ⌝ }
+{
+    if let Outcome::Refused(e) = require_positive(requested) {
+        return Outcome::Refused(e);
+    }
+    require_available(requested, available)
+}
+
+// The amount asked for is readable, not zero (refusal 14) and not above what is held (15).
+fn require_asked(input: &[u8], available: Amount, asked: u8) -> Outcome
+    ensures { λ r. ⌜ r ≡ taking (Given available) (amountIn asked (field (now (input .entry)) asked)) ⌝ }
+{
+    let requested = match input_amount(input, asked) {
+        Reading::Given(a) => a,
+        Reading::Failed(e) => return Outcome::Refused(e),
+    };
+    require_positive_available(requested, available)
 }

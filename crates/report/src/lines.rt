@@ -17,6 +17,21 @@ use session::MAX_STEPS;
 use session::Run;
 use session::StepAnswer;
 
+// The listing of a run, from the buffer's start on.
+pub(crate) fn put_listing(out: &mut [u8], run: Run) -> usize
+    requires { ⌜ (run .number ≡ 0 → (run .count ≤ 255) × (wellFormed (run .book) ≡ true)) ⌝ }
+    ensures { λ r. ⌜ (r ≤ 4096) × Wrote (now (out .entry)) 0 (runText run) (now (out .exit)) r ⌝ }
+{
+    if run.number != 0 {
+        return text::put(out, 0, b"bad session\n");
+    }
+    let answers = run.steps;
+    let book = run.book;
+    let steps = put_steps(out, answers, run.count);
+    let places = put_places(out, steps, book);
+    put_last(out, places, book)
+}
+
 // What step k answered: three numbers below 1,000, two spaces and a line feed.
 fn put_step(out: &mut [u8], at: usize, k: u16, a: StepAnswer) -> usize
     requires { ⌜ (k < 1000) × (at + 12 < 65536) ⌝ }
@@ -111,19 +126,4 @@ fn put_last(out: &mut [u8], at: usize, book: Book) -> usize
     let word = text::put(out, counts, b" total ");
     let total = text::put_amount(out, word, Amount { mantissa, scale: 0 });
     text::put(out, total, b"\n")
-}
-
-// The listing of a run, from the buffer's start on.
-pub(crate) fn put_listing(out: &mut [u8], run: Run) -> usize
-    requires { ⌜ (run .number ≡ 0 → (run .count ≤ 255) × (wellFormed (run .book) ≡ true)) ⌝ }
-    ensures { λ r. ⌜ (r ≤ 4096) × Wrote (now (out .entry)) 0 (runText run) (now (out .exit)) r ⌝ }
-{
-    if run.number != 0 {
-        return text::put(out, 0, b"bad session\n");
-    }
-    let answers = run.steps;
-    let book = run.book;
-    let steps = put_steps(out, answers, run.count);
-    let places = put_places(out, steps, book);
-    put_last(out, places, book)
 }

@@ -7,6 +7,7 @@ ghost use lib.ListN.{length, take};
 ghost use Rattle.amount.specs.Canonical.{wholeText, canonicalText};
 ghost use Rattle.report.specs.Writing.{Wrote};
 use amount::Amount;
+use amount::TEXT_BYTES;
 
 pub(crate) fn put(out: &mut [u8], at: usize, text: &[u8]) -> usize
     requires { ⌜ at + length (now text) < 65536 ⌝ }
@@ -39,15 +40,6 @@ pub(crate) fn put_number(out: &mut [u8], at: usize, n: u16) -> usize
     put(out, at, &[(48 + n / 100) as u8, tens, ones])
 }
 
-// The first bytes of a fixed text.
-fn put_first(out: &mut [u8], at: usize, bytes: [u8; 257], len: u16) -> usize
-    requires { ⌜ (len ≤ 39) × (at + 39 < 65536) ⌝ }
-    ensures { λ r. ⌜ (r ≤ at + 39) × Wrote (now (out .entry)) at (take len bytes) (now (out .exit)) r ⌝ }
-{
-    let n = len as usize;
-    put(out, at, &bytes[..n])
-}
-
 // An amount of whole credits, as all of a book are.
 pub(crate) fn put_amount(out: &mut [u8], at: usize, a: Amount) -> usize
     requires { ⌜ (a .scale ≡ 0) × (at + 39 < 65536) ⌝ }
@@ -56,4 +48,13 @@ pub(crate) fn put_amount(out: &mut [u8], at: usize, a: Amount) -> usize
     let t = a.to_canonical_string();
     let bytes = t.bytes;
     put_first(out, at, bytes, t.len)
+}
+
+// The first bytes of a fixed text.
+fn put_first(out: &mut [u8], at: usize, bytes: [u8; TEXT_BYTES], len: u16) -> usize
+    requires { ⌜ (len ≤ 39) × (at + 39 < 65536) ⌝ }
+    ensures { λ r. ⌜ (r ≤ at + 39) × Wrote (now (out .entry)) at (take len bytes) (now (out .exit)) r ⌝ }
+{
+    let n = len as usize;
+    put(out, at, &bytes[..n])
 }

@@ -23,34 +23,6 @@ use sheet::TO_SUBJECT;
 use sheet::TO_UNIT;
 use sheet::UNIT;
 
-// Born, st subject, st unit.
-fn require_texts(state: &[u8]) -> Outcome
-    ensures { λ r. ⌜ r ≡ firstOf (now (state .entry)) [] holding ⌝ }
-{
-    if let Outcome::Refused(e) = require_current(state) {
-        return Outcome::Refused(e);
-    }
-    if let Outcome::Refused(e) = state_str(state, SUBJECT) {
-        return Outcome::Refused(e);
-    }
-    state_str(state, UNIT)
-}
-
-// What is held and what is asked more.
-fn raised(state: &[u8], input: &[u8], held: u8, asked: u8) -> Reading
-    ensures { λ r. ⌜ r ≡ amountOver (now (state .entry)) (now (input .entry)) (raising held asked) (sum held asked) ⌝ }
-{
-    let current = match state_amount(state, held) {
-        Reading::Given(a) => a,
-        Reading::Failed(e) => return Reading::Failed(e),
-    };
-    let amount = match input_amount(input, asked) {
-        Reading::Given(a) => a,
-        Reading::Failed(e) => return Reading::Failed(e),
-    };
-    given_or(current.checked_add(amount), ProfileError::Overflow)
-}
-
 // What is held less what is asked.
 pub(crate) fn lowered(state: &[u8], input: &[u8], held: u8, asked: u8) -> Reading
     ensures { λ r. ⌜ r ≡ amountOver (now (state .entry)) (now (input .entry)) (lowering held asked) (difference held asked) ⌝ }
@@ -150,4 +122,32 @@ pub(crate) fn adjusted(state: &[u8], input: &[u8], asked: u8) -> Reading
         return Reading::Failed(e);
     }
     input_amount(input, asked)
+}
+
+// Born, st subject, st unit.
+fn require_texts(state: &[u8]) -> Outcome
+    ensures { λ r. ⌜ r ≡ firstOf (now (state .entry)) [] holding ⌝ }
+{
+    if let Outcome::Refused(e) = require_current(state) {
+        return Outcome::Refused(e);
+    }
+    if let Outcome::Refused(e) = state_str(state, SUBJECT) {
+        return Outcome::Refused(e);
+    }
+    state_str(state, UNIT)
+}
+
+// What is held and what is asked more.
+fn raised(state: &[u8], input: &[u8], held: u8, asked: u8) -> Reading
+    ensures { λ r. ⌜ r ≡ amountOver (now (state .entry)) (now (input .entry)) (raising held asked) (sum held asked) ⌝ }
+{
+    let current = match state_amount(state, held) {
+        Reading::Given(a) => a,
+        Reading::Failed(e) => return Reading::Failed(e),
+    };
+    let amount = match input_amount(input, asked) {
+        Reading::Given(a) => a,
+        Reading::Failed(e) => return Reading::Failed(e),
+    };
+    given_or(current.checked_add(amount), ProfileError::Overflow)
 }

@@ -18,6 +18,7 @@ use super::amounts::expired;
 use super::amounts::transferred;
 use registry::error::ProfileError;
 use registry::error::Reading;
+use registry::op;
 use sheet::AMOUNT;
 use sheet::BALANCE;
 use sheet::QUANTITY;
@@ -52,6 +53,55 @@ pub fn balance(subject: Part, unit: Part, amount: Reading) -> Next
     }
 }
 
+pub fn apply_stack(operation: u8, state: &[u8], input: &[u8]) -> Next
+    ensures { λ r. ⌜ r ≡ stackNext amountIn (sightOf (now (state .entry))) (field (now (input .entry))) operation ⌝ }
+{
+    let op = operation;
+    match op {
+        op::STACK_CREATE => stack(
+            Part::Input(SUBJECT),
+            Part::Input(UNIT),
+            created(input, QUANTITY),
+        ),
+        op::STACK_CREDIT => stack_with(credited(state, input, QUANTITY, QUANTITY)),
+        op::STACK_DEBIT => stack_with(debited(state, input, QUANTITY, QUANTITY)),
+        op::STACK_CONSUME => stack_with(debited(state, input, QUANTITY, QUANTITY)),
+        op::STACK_TRANSFER => stack_with(transferred(state, input, QUANTITY, QUANTITY)),
+        op::STACK_RESERVE => stack_with(debited(state, input, QUANTITY, QUANTITY)),
+        op::STACK_RELEASE => stack_with(credited(state, input, QUANTITY, QUANTITY)),
+        op::STACK_EXPIRE => stack_with(expired(state)),
+        op::STACK_ADJUST => stack_with(adjusted(state, input, QUANTITY)),
+        _ => Next::Refused(ProfileError::UnknownOperation),
+    }
+}
+
+pub fn apply_balance(operation: u8, state: &[u8], input: &[u8]) -> Next
+    ensures { λ r. ⌜ r ≡ balanceNext amountIn (sightOf (now (state .entry))) (field (now (input .entry))) operation ⌝ }
+{
+    let op = operation;
+    match op {
+        op::BALANCE_CREATE => balance(
+            Part::Input(SUBJECT),
+            Part::Input(UNIT),
+            created(input, BALANCE),
+        ),
+        op::BALANCE_MINT => balance_with(credited(state, input, BALANCE, AMOUNT)),
+        op::BALANCE_CREDIT => balance_with(credited(state, input, BALANCE, AMOUNT)),
+        op::BALANCE_DEBIT => balance_with(debited(state, input, BALANCE, AMOUNT)),
+        op::BALANCE_TRANSFER => balance_with(transferred(state, input, BALANCE, AMOUNT)),
+        op::BALANCE_RESERVE => balance_with(debited(state, input, BALANCE, AMOUNT)),
+        op::BALANCE_RELEASE => balance_with(credited(state, input, BALANCE, AMOUNT)),
+        op::BALANCE_SPEND => balance_with(debited(state, input, BALANCE, AMOUNT)),
+        op::BALANCE_BURN => balance_with(debited(state, input, BALANCE, AMOUNT)),
+        op::BALANCE_CONVERT => balance(
+            Part::State(SUBJECT),
+            Part::Input(TO_UNIT),
+            converted(state, input),
+        ),
+        _ => Next::Refused(ProfileError::UnknownOperation),
+    }
+}
+
 // The state with another amount.
 fn stack_with(quantity: Reading) -> Next
     ensures { λ r. ⌜ r ≡ withAmount quantity (stackOf (Part.State subject) (Part.State unit)) ⌝ }
@@ -63,53 +113,4 @@ fn balance_with(amount: Reading) -> Next
     ensures { λ r. ⌜ r ≡ withAmount amount (balanceOf (Part.State subject) (Part.State unit)) ⌝ }
 {
     balance(Part::State(SUBJECT), Part::State(UNIT), amount)
-}
-
-pub fn apply_stack(operation: u8, state: &[u8], input: &[u8]) -> Next
-    ensures { λ r. ⌜ r ≡ stackNext amountIn (sightOf (now (state .entry))) (field (now (input .entry))) operation ⌝ }
-{
-    let op = operation;
-    match op {
-        1 => stack(
-            Part::Input(SUBJECT),
-            Part::Input(UNIT),
-            created(input, QUANTITY),
-        ),
-        2 => stack_with(credited(state, input, QUANTITY, QUANTITY)),
-        3 => stack_with(debited(state, input, QUANTITY, QUANTITY)),
-        4 => stack_with(debited(state, input, QUANTITY, QUANTITY)),
-        5 => stack_with(transferred(state, input, QUANTITY, QUANTITY)),
-        6 => stack_with(debited(state, input, QUANTITY, QUANTITY)),
-        7 => stack_with(credited(state, input, QUANTITY, QUANTITY)),
-        8 => stack_with(expired(state)),
-        9 => stack_with(adjusted(state, input, QUANTITY)),
-        _ => Next::Refused(ProfileError::UnknownOperation),
-    }
-}
-
-pub fn apply_balance(operation: u8, state: &[u8], input: &[u8]) -> Next
-    ensures { λ r. ⌜ r ≡ balanceNext amountIn (sightOf (now (state .entry))) (field (now (input .entry))) operation ⌝ }
-{
-    let op = operation;
-    match op {
-        11 => balance(
-            Part::Input(SUBJECT),
-            Part::Input(UNIT),
-            created(input, BALANCE),
-        ),
-        12 => balance_with(credited(state, input, BALANCE, AMOUNT)),
-        13 => balance_with(credited(state, input, BALANCE, AMOUNT)),
-        14 => balance_with(debited(state, input, BALANCE, AMOUNT)),
-        15 => balance_with(transferred(state, input, BALANCE, AMOUNT)),
-        16 => balance_with(debited(state, input, BALANCE, AMOUNT)),
-        17 => balance_with(credited(state, input, BALANCE, AMOUNT)),
-        18 => balance_with(debited(state, input, BALANCE, AMOUNT)),
-        19 => balance_with(debited(state, input, BALANCE, AMOUNT)),
-        20 => balance(
-            Part::State(SUBJECT),
-            Part::Input(TO_UNIT),
-            converted(state, input),
-        ),
-        _ => Next::Refused(ProfileError::UnknownOperation),
-    }
 }

@@ -18,6 +18,7 @@ use registry::error::ProfileError;
 use registry::error::Reading;
 use registry::input_amount;
 use registry::input_str;
+use registry::op;
 use registry::require_current;
 use registry::state_amount;
 use registry::state_str;
@@ -25,6 +26,21 @@ use sheet::AMOUNT;
 use sheet::MAXIMUM;
 use sheet::REMAINING;
 use sheet::SUBJECT;
+
+pub fn apply_meter(operation: u8, state: &[u8], input: &[u8]) -> Next
+    ensures { λ r. ⌜ r ≡ meterNext amountIn (sightOf (now (state .entry))) (field (now (input .entry))) operation ⌝ }
+{
+    let op = operation;
+    match op {
+        op::METER_CREATE => create(input),
+        op::METER_CONSUME => consume(state, input),
+        op::METER_REFILL => refill(state),
+        op::METER_SET_MAXIMUM => set_maximum(state, input),
+        op::METER_RESET => reset(state),
+        op::METER_EXPIRE => reset(state),
+        _ => Next::Refused(ProfileError::UnknownOperation),
+    }
+}
 
 fn meter(subject: Part, remaining: Amount, maximum: Amount) -> Next
     ensures { λ r. ⌜ r ≡ Next.State (meterOf subject remaining maximum) ⌝ }
@@ -120,19 +136,4 @@ fn reset(state: &[u8]) -> Next
         Reading::Failed(e) => return Next::Refused(e),
     };
     meter(Part::State(SUBJECT), Amount::ZERO, maximum)
-}
-
-pub fn apply_meter(operation: u8, state: &[u8], input: &[u8]) -> Next
-    ensures { λ r. ⌜ r ≡ meterNext amountIn (sightOf (now (state .entry))) (field (now (input .entry))) operation ⌝ }
-{
-    let op = operation;
-    match op {
-        21 => create(input),
-        22 => consume(state, input),
-        23 => refill(state),
-        24 => set_maximum(state, input),
-        25 => reset(state),
-        26 => reset(state),
-        _ => Next::Refused(ProfileError::UnknownOperation),
-    }
 }

@@ -7,18 +7,16 @@ ghost use Prim.Native.Nat.{ℕ, _+_, _*_, _<_};
 ghost use Rattle.session.specs.Session.{lineAt, lineBody, startFits, stepFits, lineFits, soundSession, stepOf};
 ghost use Rattle.session.specs.Entries.{entryStep};
 use super::Line;
+use super::MAX_BYTES;
 use steps::Step;
 
-// The most bytes of a session, and the most entries.
-const MAX_BYTES: usize = 16384;
-
+// The most entries of a session.
 const MAX_ENTRIES: usize = 256;
 
-// Two bytes as a number, the low one first.
-fn word(lo: u8, hi: u8) -> u16
-    ensures { λ r. ⌜ r ≡ lo + 256 * hi ⌝ }
-{
-    lo as u16 + 256 * hi as u16
+// The step of an entry, without its body; another kind is none.
+pub enum Entry {
+    Step(Step),
+    NoStep,
 }
 
 // Entry k of the table.
@@ -55,12 +53,6 @@ pub(crate) fn body(s: &[u8], l: Line) -> &[u8]
     sheet::part(s, l.offset as usize, l.len as usize)
 }
 
-// The step of an entry, without its body; another kind is none.
-pub enum Entry {
-    Step(Step),
-    NoStep,
-}
-
 pub(crate) fn step_of(l: Line) -> Entry
     ensures { λ r. ⌜ ((i : List ℕ) → entryStep r i ≡ stepOf l i) ⌝ }
 {
@@ -72,6 +64,40 @@ pub(crate) fn step_of(l: Line) -> Entry
         4 => Entry::Step(Step::Finish(l.t)),
         _ => Entry::NoStep,
     }
+}
+
+// Whether the bytes are a session. `at` is where the next body must start, and moves by each entry's own length.
+pub(crate) fn is_sound(s: &[u8]) -> bool
+    ensures { λ r. ⌜ r ≡ soundSession (now (s .entry)) ⌝ }
+{
+    if MAX_BYTES < s.len() {
+        return false;
+    }
+    let n = sheet::u16_at(s, 0) as usize;
+    if n < 1 {
+        return false;
+    }
+    if MAX_ENTRIES < n {
+        return false;
+    }
+    let mut at = 2 + 8 * n;
+    let mut k: usize = 0;
+    while k < n {
+        let l = line_at(s, k);
+        if !line_fits(k, l, at) {
+            return false;
+        }
+        at += l.len as usize;
+        k += 1;
+    }
+    at == s.len()
+}
+
+// Two bytes as a number, the low one first.
+fn word(lo: u8, hi: u8) -> u16
+    ensures { λ r. ⌜ r ≡ lo + 256 * hi ⌝ }
+{
+    lo as u16 + 256 * hi as u16
 }
 
 // Entry one is kind 0 and uses no field.
@@ -135,31 +161,4 @@ fn line_fits(k: usize, l: Line, at: usize) -> bool
         return start_fits(l);
     }
     step_fits(l)
-}
-
-// Whether the bytes are a session. `at` is where the next body must start, and moves by each entry's own length.
-pub(crate) fn is_sound(s: &[u8]) -> bool
-    ensures { λ r. ⌜ r ≡ soundSession (now (s .entry)) ⌝ }
-{
-    if MAX_BYTES < s.len() {
-        return false;
-    }
-    let n = sheet::u16_at(s, 0) as usize;
-    if n < 1 {
-        return false;
-    }
-    if MAX_ENTRIES < n {
-        return false;
-    }
-    let mut at = 2 + 8 * n;
-    let mut k: usize = 0;
-    while k < n {
-        let l = line_at(s, k);
-        if !line_fits(k, l, at) {
-            return false;
-        }
-        at += l.len as usize;
-        k += 1;
-    }
-    at == s.len()
 }

@@ -15,6 +15,26 @@ use book::Book;
 use book::error::BookOutcome;
 use steps::View;
 
+const NO_ANSWER: StepAnswer = StepAnswer {
+    number: 0,
+    detail: 0,
+};
+
+// The run, as a call. A fresh book has a total of 0, and passes 28.
+pub fn run(s: &[u8]) -> Run
+    ensures { λ r. ⌜ r ≡ runOf (now (s .entry)) ⌝ }
+{
+    if !is_good(s) {
+        return bad_run();
+    }
+    let n = sheet::u16_at(s, 0) - 1;
+    let total = Total {
+        sound: true,
+        sum: Uint128::ZERO,
+    };
+    do_steps(s, steps::start_book(unit(s)), 1, n, total)
+}
+
 // The body of entry one.
 fn unit(s: &[u8]) -> &[u8]
     ensures { λ r. ⌜ now r ≡ unitOf (now (s .entry)) ⌝ }
@@ -34,11 +54,6 @@ fn is_good(s: &[u8]) -> bool
     };
     true
 }
-
-const NO_ANSWER: StepAnswer = StepAnswer {
-    number: 0,
-    detail: 0,
-};
 
 // A book of zeros, as a refused start gives it, and no steps.
 fn bad_run() -> Run
@@ -126,19 +141,4 @@ fn do_steps(s: &[u8], given: Book, first: u16, n: u16, total: Total) -> Run
         steps: answers,
         book,
     }
-}
-
-// The run, as a call. A fresh book has a total of 0, and passes 28.
-pub fn run(s: &[u8]) -> Run
-    ensures { λ r. ⌜ r ≡ runOf (now (s .entry)) ⌝ }
-{
-    if !is_good(s) {
-        return bad_run();
-    }
-    let n = sheet::u16_at(s, 0) - 1;
-    let total = Total {
-        sound: true,
-        sum: Uint128::ZERO,
-    };
-    do_steps(s, steps::start_book(unit(s)), 1, n, total)
 }

@@ -9,46 +9,6 @@ use super::u16_in;
 use amount::Amount;
 use amount::Uint128;
 
-fn u32_at(s: &[u8], i: usize) -> u32
-    requires { ⌜ i < 2 ^ 32 ⌝ }
-    ensures { λ r. ⌜ r ≡ u32At (now (s .entry)) i ⌝ }
-{
-    let lo = u16_at(s, i) as u32;
-    let hi = u16_at(s, i + 2) as u32;
-    lo + 65536 * hi
-}
-
-fn u32_in(s: &[u8], i: usize) -> u32
-    requires { ⌜ i + 4 ≤ length (now s) ⌝ }
-    ensures { λ r. ⌜ r ≡ u32At (now (s .entry)) i ⌝ }
-{
-    let lo = u16_in(s, i) as u32;
-    let hi = u16_in(s, i + 2) as u32;
-    lo + 65536 * hi
-}
-
-fn u64_in(s: &[u8], i: usize) -> u64
-    requires { ⌜ i + 8 ≤ length (now s) ⌝ }
-    ensures { λ r. ⌜ r ≡ u64At (now (s .entry)) i ⌝ }
-{
-    let lo = u32_in(s, i) as u64;
-    let hi = u32_in(s, i + 4) as u64;
-    lo + 4294967296 * hi
-}
-
-// Where all eight bytes are there, one test stands for theirs.
-fn u64_at(s: &[u8], i: usize) -> u64
-    requires { ⌜ i < 2 ^ 31 ⌝ }
-    ensures { λ r. ⌜ r ≡ u64At (now (s .entry)) i ⌝ }
-{
-    if i + 8 <= s.len() {
-        return u64_in(s, i);
-    }
-    let lo = u32_at(s, i) as u64;
-    let hi = u32_at(s, i + 4) as u64;
-    lo + 4294967296 * hi
-}
-
 // The amount whose bytes start at `start`.
 pub fn amount_at(s: &[u8], start: u16) -> Amount
     ensures { λ r. ⌜ r ≡ amountAt (now (s .entry)) start ⌝ }
@@ -89,4 +49,44 @@ pub fn amount_bytes(a: Amount) -> [u8; 17]
         (hi / 72057594037927936 % 256) as u8,
         a.scale,
     ]
+}
+
+fn u32_at(s: &[u8], i: usize) -> u32
+    requires { ⌜ i < 2 ^ 32 ⌝ }
+    ensures { λ r. ⌜ r ≡ u32At (now (s .entry)) i ⌝ }
+{
+    let lo = u16_at(s, i) as u32;
+    let hi = u16_at(s, i + 2) as u32;
+    lo + 65536 * hi
+}
+
+fn u32_in(s: &[u8], i: usize) -> u32
+    requires { ⌜ i + 4 ≤ length (now s) ⌝ }
+    ensures { λ r. ⌜ r ≡ u32At (now (s .entry)) i ⌝ }
+{
+    let lo = u16_in(s, i) as u32;
+    let hi = u16_in(s, i + 2) as u32;
+    lo + 65536 * hi
+}
+
+fn u64_in(s: &[u8], i: usize) -> u64
+    requires { ⌜ i + 8 ≤ length (now s) ⌝ }
+    ensures { λ r. ⌜ r ≡ u64At (now (s .entry)) i ⌝ }
+{
+    let lo = u32_in(s, i) as u64;
+    let hi = u32_in(s, i + 4) as u64;
+    lo + 4294967296 * hi
+}
+
+// Where all eight bytes are there, one test stands for theirs.
+fn u64_at(s: &[u8], i: usize) -> u64
+    requires { ⌜ i < 2 ^ 31 ⌝ }
+    ensures { λ r. ⌜ r ≡ u64At (now (s .entry)) i ⌝ }
+{
+    if i + 8 <= s.len() {
+        return u64_in(s, i);
+    }
+    let lo = u32_at(s, i) as u64;
+    let hi = u32_at(s, i + 4) as u64;
+    lo + 4294967296 * hi
 }

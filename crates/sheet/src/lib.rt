@@ -122,36 +122,6 @@ pub fn u16_at(s: &[u8], i: usize) -> u16
     }
 }
 
-// The same, where both bytes are there.
-fn u16_in(s: &[u8], i: usize) -> u16
-    requires { ⌜ i + 2 ≤ length (now s) ⌝ }
-    ensures { λ r. ⌜ r ≡ u16At (now (s .entry)) i ⌝ }
-{
-    s[i] as u16 + 256 * s[i + 1] as u16
-}
-
-// Entry k of the table. Where it is there whole, one test stands for those of its six bytes.
-fn entry_at(s: &[u8], k: usize) -> Entry
-    requires { ⌜ k < 256 ⌝ }
-    ensures { λ r. ⌜ r ≡ entryAt (now (s .entry)) k ⌝ }
-{
-    let p = 1 + 6 * k;
-    if p + 6 <= s.len() {
-        return Entry {
-            name: s[p],
-            kind: s[p + 1],
-            offset: u16_in(s, p + 2),
-            len: u16_in(s, p + 4),
-        };
-    }
-    Entry {
-        name: byte(s, p),
-        kind: byte(s, p + 1),
-        offset: u16_at(s, p + 2),
-        len: u16_at(s, p + 4),
-    }
-}
-
 // The first entry of that name.
 pub fn find(s: &[u8], name: u8) -> Found
     ensures { λ r. ⌜ r ≡ lookup name (table (now (s .entry))) ⌝ }
@@ -197,4 +167,34 @@ pub fn body(s: &[u8], name: u8) -> &[u8]
         return &s[..0];
     };
     entry_body(s, e)
+}
+
+// A 16-bit number, where both its bytes are there.
+fn u16_in(s: &[u8], i: usize) -> u16
+    requires { ⌜ i + 2 ≤ length (now s) ⌝ }
+    ensures { λ r. ⌜ r ≡ u16At (now (s .entry)) i ⌝ }
+{
+    s[i] as u16 + 256 * s[i + 1] as u16
+}
+
+// Entry k of the table. Where it is there whole, one test stands for those of its six bytes.
+fn entry_at(s: &[u8], k: usize) -> Entry
+    requires { ⌜ k < 256 ⌝ }
+    ensures { λ r. ⌜ r ≡ entryAt (now (s .entry)) k ⌝ }
+{
+    let p = 1 + 6 * k;
+    if p + 6 <= s.len() {
+        return Entry {
+            name: s[p],
+            kind: s[p + 1],
+            offset: u16_in(s, p + 2),
+            len: u16_in(s, p + 4),
+        };
+    }
+    Entry {
+        name: byte(s, p),
+        kind: byte(s, p + 1),
+        offset: u16_at(s, p + 2),
+        len: u16_at(s, p + 4),
+    }
 }

@@ -12,6 +12,11 @@ pub enum Step {
     End,
 }
 
+pub struct Reader<'a> {
+    pub sheet: &'a [u8],
+    pub next: usize,
+}
+
 // What a reader that stands before entry k finds.
 pub fn step_at(s: &[u8], k: usize) -> Step
     ensures { λ r. ⌜ r ≡ foundAt (now (s .entry)) k ⌝ }
@@ -29,11 +34,6 @@ pub fn after(k: usize) -> usize
     ensures { λ r. ⌜ r ≡ afterOf k ⌝ }
 {
     if k < 255 { k + 1 } else { 255 }
-}
-
-pub struct Reader<'a> {
-    pub sheet: &'a [u8],
-    pub next: usize,
 }
 
 // A reader before entry 0.

@@ -25,6 +25,35 @@ use super::Verdict;
 use super::byte;
 use super::entry_at;
 
+// Whether the bytes are a sheet of this shape.
+pub fn layout(s: &[u8], shape: Shape) -> Verdict
+    ensures { λ r. ⌜ r ≡ verdictOf shape (now (s .entry)) ⌝ }
+{
+    match shape {
+        Shape::Input => input_layout(s),
+        Shape::Stack => form_layout(s, STACK_FORM),
+        Shape::Balance => form_layout(s, BALANCE_FORM),
+        Shape::Meter => form_layout(s, METER_FORM),
+    }
+}
+
+// What the bytes are as a state. The third entry's name says of which form they can be.
+pub fn state_of(s: &[u8]) -> State
+    ensures { λ r. ⌜ r ≡ stateOf (now (s .entry)) ⌝ }
+{
+    if s.len() == 0 {
+        return State::Absent;
+    }
+    let third = byte(s, 13);
+    if third == QUANTITY {
+        return state_if(layout(s, Shape::Stack), State::Stack);
+    }
+    if third == BALANCE {
+        return state_if(layout(s, Shape::Balance), State::Balance);
+    }
+    state_if(layout(s, Shape::Meter), State::Meter)
+}
+
 // Whether a body of this kind may have this length.
 fn length_fits(kind: u8, len: u16) -> bool
     ensures { λ r. ⌜ r ≡ lengthFits kind len ⌝ }
@@ -151,18 +180,6 @@ fn form_layout(s: &[u8], form: Form) -> Verdict
     ending(s, at + third.len as usize)
 }
 
-// Whether the bytes are a sheet of this shape.
-pub fn layout(s: &[u8], shape: Shape) -> Verdict
-    ensures { λ r. ⌜ r ≡ verdictOf shape (now (s .entry)) ⌝ }
-{
-    match shape {
-        Shape::Input => input_layout(s),
-        Shape::Stack => form_layout(s, STACK_FORM),
-        Shape::Balance => form_layout(s, BALANCE_FORM),
-        Shape::Meter => form_layout(s, METER_FORM),
-    }
-}
-
 fn state_if(v: Verdict, state: State) -> State
     ensures { λ r. ⌜ r ≡ ifSound v state State.Torn ⌝ }
 {
@@ -170,21 +187,4 @@ fn state_if(v: Verdict, state: State) -> State
         Verdict::Sound => state,
         Verdict::Torn => State::Torn,
     }
-}
-
-// What the bytes are as a state. The third entry's name says of which form they can be.
-pub fn state_of(s: &[u8]) -> State
-    ensures { λ r. ⌜ r ≡ stateOf (now (s .entry)) ⌝ }
-{
-    if s.len() == 0 {
-        return State::Absent;
-    }
-    let third = byte(s, 13);
-    if third == QUANTITY {
-        return state_if(layout(s, Shape::Stack), State::Stack);
-    }
-    if third == BALANCE {
-        return state_if(layout(s, Shape::Balance), State::Balance);
-    }
-    state_if(layout(s, Shape::Meter), State::Meter)
 }

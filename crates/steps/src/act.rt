@@ -21,53 +21,10 @@ use book::error;
 use registry::asked::Asked;
 use registry::asked::text_number;
 use registry::error as profile;
+use registry::op;
 
-// The operations that add.
-fn is_adding(operation: u8) -> bool
-    ensures { λ r. ⌜ r ≡ adds operation ⌝ }
-{
-    if operation == 12 {
-        return true;
-    }
-    if operation == 13 {
-        return true;
-    }
-    operation == 17
-}
-
-// The operations of act: those that add, and those that subtract.
-fn is_act(operation: u8) -> bool
-    ensures { λ r. ⌜ r ≡ acts operation ⌝ }
-{
-    if is_adding(operation) {
-        return true;
-    }
-    if operation == 14 {
-        return true;
-    }
-    if operation == 16 {
-        return true;
-    }
-    if operation == 18 {
-        return true;
-    }
-    operation == 19
-}
-
-// Mint and burn name who authorized them: 7, 8 or 9, and 0 where nothing is missing.
-fn unauthorized(operation: u8, sheet: &[u8]) -> u8
-    ensures { λ r. ⌜ r ≡ cond (authorized operation) (textNumber (field (now (sheet .entry)) authorized-by)) 0 ⌝ }
-{
-    if operation == 12 {
-        return text_number(sheet, sheet::AUTHORIZED_BY);
-    }
-    if operation == 19 {
-        return text_number(sheet, sheet::AUTHORIZED_BY);
-    }
-    0
-}
-
-// 22, 6, 2, 4, the profile's check, 25; the amount is added or subtracted.
+// Refusal 22: off the book; 6: the place is closed; 2: a torn sheet; 4: no operation of act; those of the profile's check; 25: too much.
+// Then the amount is added or subtracted.
 pub(crate) fn act(was: View, asked: Asked, place: u8, operation: u8, sheet: &[u8]) -> Turn
     ensures { λ r. ⌜ ((b : Book) → wellFormed b ≡ true → Shows b (Code.Act place operation) was → asked ≡ askedIn amount (now (sheet .entry))
         → Turned b (Code.Act place operation) (now (sheet .entry)) r) ⌝ }
@@ -114,4 +71,49 @@ pub(crate) fn act(was: View, asked: Asked, place: u8, operation: u8, sheet: &[u8
     left.held = rest;
     left.total = less;
     accepted(left)
+}
+
+// The operations that add.
+fn is_adding(operation: u8) -> bool
+    ensures { λ r. ⌜ r ≡ adds operation ⌝ }
+{
+    if operation == op::BALANCE_MINT {
+        return true;
+    }
+    if operation == op::BALANCE_CREDIT {
+        return true;
+    }
+    operation == op::BALANCE_RELEASE
+}
+
+// The operations of act: those that add, and those that subtract.
+fn is_act(operation: u8) -> bool
+    ensures { λ r. ⌜ r ≡ acts operation ⌝ }
+{
+    if is_adding(operation) {
+        return true;
+    }
+    if operation == op::BALANCE_DEBIT {
+        return true;
+    }
+    if operation == op::BALANCE_RESERVE {
+        return true;
+    }
+    if operation == op::BALANCE_SPEND {
+        return true;
+    }
+    operation == op::BALANCE_BURN
+}
+
+// Mint and burn name who authorized them: refusal 7, 8 or 9, and 0 where nothing is missing.
+fn unauthorized(operation: u8, sheet: &[u8]) -> u8
+    ensures { λ r. ⌜ r ≡ cond (authorized operation) (textNumber (field (now (sheet .entry)) authorized-by)) 0 ⌝ }
+{
+    if operation == op::BALANCE_MINT {
+        return text_number(sheet, sheet::AUTHORIZED_BY);
+    }
+    if operation == op::BALANCE_BURN {
+        return text_number(sheet, sheet::AUTHORIZED_BY);
+    }
+    0
 }

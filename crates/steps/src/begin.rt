@@ -24,20 +24,8 @@ use book::error;
 use registry::asked::Asked;
 use registry::error as profile;
 
-// 22.
-fn off_the_book(from: u8, to: u8, transfer: u8) -> bool
-    ensures { λ r. ⌜ r ≡ (leb 16 from || leb 16 to || leb 8 transfer) ⌝ }
-{
-    if PLACES <= from {
-        return true;
-    }
-    if PLACES <= to {
-        return true;
-    }
-    TRANSFERS <= transfer
-}
-
-// 22, 24, 21, 6, 2, then balance.transfer's check, whose to_subject is the destination's subject.
+// Refusal 22: off the book; 24: from a place to itself; 21: the number is under way; 6: a place is closed; 2: a torn sheet; then those of
+// balance.transfer's check, whose to_subject is the destination's subject.
 pub(crate) fn begin(was: View, asked: Asked, from: u8, to: u8, transfer: u8) -> Turn
     ensures { λ r. ⌜ ((b : Book) (i : List ℕ) → wellFormed b ≡ true → Shows b (Code.Begin from to transfer) was → asked ≡ askedIn amount i
         → Turned b (Code.Begin from to transfer) i r) ⌝ }
@@ -78,4 +66,17 @@ pub(crate) fn begin(was: View, asked: Asked, from: u8, to: u8, transfer: u8) -> 
     left.to = to;
     left.pending = sets::with8(was.pending, transfer % TRANSFERS);
     accepted(left)
+}
+
+// Refusal 22: a place or a transfer number off the book.
+fn off_the_book(from: u8, to: u8, transfer: u8) -> bool
+    ensures { λ r. ⌜ r ≡ (leb 16 from || leb 16 to || leb 8 transfer) ⌝ }
+{
+    if PLACES <= from {
+        return true;
+    }
+    if PLACES <= to {
+        return true;
+    }
+    TRANSFERS <= transfer
 }

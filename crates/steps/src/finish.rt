@@ -16,7 +16,7 @@ use crate::step::refused;
 use amount::Uint128;
 use book::error;
 
-// 22, 23.
+// Refusal 22: off the book; 23: not under way.
 pub(crate) fn finish(was: View, transfer: u8) -> Turn
     ensures { λ r. ⌜ ((b : Book) (i : List ℕ) → wellFormed b ≡ true → Shows b (Code.Finish transfer) was → Turned b (Code.Finish transfer) i r) ⌝ }
 {

@@ -58,6 +58,14 @@ pub(crate) fn short_name(text: &[u8]) -> Name
     name_of(text)
 }
 
+// Whether a name is that text.
+pub(crate) fn is_named(name: Name, text: &[u8]) -> bool
+    ensures { λ r. ⌜ r ≡ sameBytes (nameBytes name) (now (text .entry)) ⌝ }
+{
+    let bytes = name.bytes;
+    same_text(bytes, length_of(name), text)
+}
+
 // The first bytes of a name are that text.
 fn same_text(bytes: [u8; NAME_BYTES], len: u8, text: &[u8]) -> bool
     requires { ⌜ len ≤ 32 ⌝ }
@@ -75,12 +83,4 @@ fn same_text(bytes: [u8; NAME_BYTES], len: u8, text: &[u8]) -> bool
         i += 1;
     }
     true
-}
-
-// Whether a name is that text.
-pub(crate) fn is_named(name: Name, text: &[u8]) -> bool
-    ensures { λ r. ⌜ r ≡ sameBytes (nameBytes name) (now (text .entry)) ⌝ }
-{
-    let bytes = name.bytes;
-    same_text(bytes, length_of(name), text)
 }

@@ -22,7 +22,8 @@ use registry::asked::Asked;
 use registry::asked::text_number;
 use registry::error as profile;
 
-// 22, 5, 2, create's check, 26, 27, 25. The caller stores the subject.
+// Refusal 22: off the book; 5: the place is open; 2: a torn sheet; those of create's check; 26: another unit; 27: a subject over 32 bytes;
+// 25: too much. The caller stores the subject.
 pub(crate) fn open(was: View, asked: Asked, unit: Name, place: u8, sheet: &[u8]) -> Turn
     ensures { λ r. ⌜ ((b : Book) → wellFormed b ≡ true → Shows b (Code.Open place) was → unit ≡ b .unit → asked ≡ askedIn balance (now (sheet .entry))
         → Turned b (Code.Open place) (now (sheet .entry)) r) ⌝ }

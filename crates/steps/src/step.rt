@@ -80,18 +80,6 @@ pub fn destination_of(step: Step) -> u8
     }
 }
 
-// Whether a step writes a subject: an accepted open.
-fn writes_subject(step: Step, number: u8) -> bool
-    ensures { λ r. ⌜ r ≡ writesSubject step number ⌝ }
-{
-    match step {
-        Step::Open(_) => number == 0,
-        Step::Act(_, _) => false,
-        Step::Begin(_, _, _) => false,
-        Step::Finish(_) => false,
-    }
-}
-
 // The subject of the place after a step: an accepted open writes its sheet's.
 pub fn subject_after(step: Step, number: u8, subject: Name, sheet: &[u8]) -> Name
     ensures { λ r. ⌜ r ≡ subjectAfter step number subject (now (sheet .entry)) ⌝ }
@@ -113,24 +101,6 @@ pub fn answer_of(turn: Turn) -> Answer
     answer(turn.number, turn.detail, Uint128::ZERO, Uint128::ZERO)
 }
 
-fn answer(number: u8, detail: u8, available: Uint128, requested: Uint128) -> Answer
-    ensures { λ r. ⌜ r ≡ record { number = number; detail = detail; available = wholeOf available; requested = wholeOf requested; length = 0 } ⌝ }
-{
-    Answer {
-        number,
-        detail,
-        available: Amount {
-            mantissa: available,
-            scale: 0,
-        },
-        requested: Amount {
-            mantissa: requested,
-            scale: 0,
-        },
-        length: 0,
-    }
-}
-
 // A refusal leaves all as it was.
 pub(crate) fn refused(was: View, number: u8, detail: u8) -> Turn
     ensures { λ r. ⌜ r ≡ refusedBy was number detail ⌝ }
@@ -143,7 +113,7 @@ pub(crate) fn refused(was: View, number: u8, detail: u8) -> Turn
     }
 }
 
-// 15.
+// Refusal 15: more is asked for than is held.
 pub(crate) fn short(was: View, amount: Uint128) -> Turn
     ensures { λ r. ⌜ r ≡ shortBy was amount ⌝ }
 {
@@ -163,5 +133,35 @@ pub(crate) fn accepted(left: View) -> Turn
         detail: 0,
         asked: Uint128::ZERO,
         left,
+    }
+}
+
+// Whether a step writes a subject: an accepted open.
+fn writes_subject(step: Step, number: u8) -> bool
+    ensures { λ r. ⌜ r ≡ writesSubject step number ⌝ }
+{
+    match step {
+        Step::Open(_) => number == 0,
+        Step::Act(_, _) => false,
+        Step::Begin(_, _, _) => false,
+        Step::Finish(_) => false,
+    }
+}
+
+fn answer(number: u8, detail: u8, available: Uint128, requested: Uint128) -> Answer
+    ensures { λ r. ⌜ r ≡ record { number = number; detail = detail; available = wholeOf available; requested = wholeOf requested; length = 0 } ⌝ }
+{
+    Answer {
+        number,
+        detail,
+        available: Amount {
+            mantissa: available,
+            scale: 0,
+        },
+        requested: Amount {
+            mantissa: requested,
+            scale: 0,
+        },
+        length: 0,
     }
 }

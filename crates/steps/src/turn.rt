@@ -20,6 +20,22 @@ use registry::error::TORN_INPUT;
 // No field has this name.
 const NO_NAME: u8 = 0;
 
+// THE TURN, of any book: 28 first. A refused step leaves all as it was.
+pub fn take_turn(step: Step, was: View, unit: Name, sheet: &[u8]) -> Turn
+    ensures { λ r. ⌜ ((b : Book) → Shows b step was → unit ≡ b .unit → Turned b step (now (sheet .entry)) r) ⌝ }
+{
+    if !was.sound {
+        return refused(was, error::BAD_BOOK, 0);
+    }
+    let asked = asked_of(amount_of(step), sheet);
+    match step {
+        Step::Open(place) => open::open(was, asked, unit, place, sheet),
+        Step::Act(place, operation) => act::act(was, asked, place, operation, sheet),
+        Step::Begin(from, to, transfer) => begin::begin(was, asked, from, to, transfer),
+        Step::Finish(transfer) => finish::finish(was, transfer),
+    }
+}
+
 // The name of the amount that a step reads of its sheet.
 fn amount_of(step: Step) -> u8
     ensures { λ r. ⌜ r ≡ amountNamed step ⌝ }
@@ -45,20 +61,4 @@ fn asked_of(name: u8, sheet: &[u8]) -> Asked
         };
     }
     asked_in(sheet, name)
-}
-
-// THE TURN, of any book: 28 first. A refused step leaves all as it was.
-pub fn take_turn(step: Step, was: View, unit: Name, sheet: &[u8]) -> Turn
-    ensures { λ r. ⌜ ((b : Book) → Shows b step was → unit ≡ b .unit → Turned b step (now (sheet .entry)) r) ⌝ }
-{
-    if !was.sound {
-        return refused(was, error::BAD_BOOK, 0);
-    }
-    let asked = asked_of(amount_of(step), sheet);
-    match step {
-        Step::Open(place) => open::open(was, asked, unit, place, sheet),
-        Step::Act(place, operation) => act::act(was, asked, place, operation, sheet),
-        Step::Begin(from, to, transfer) => begin::begin(was, asked, from, to, transfer),
-        Step::Finish(transfer) => finish::finish(was, transfer),
-    }
 }

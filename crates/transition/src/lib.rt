@@ -15,12 +15,13 @@ use registry::error::Answer;
 use registry::error::Outcome;
 use registry::error::ProfileError;
 use registry::error::refusal;
+use registry::op;
 use resource_state::Next;
 use resource_state::Part;
 use resource_state::ResourceState;
 use writer::Put;
 
-// 1, 2, 3, 4, the operation's reads and arithmetic, then 20.
+// Refusals 1 to 4, then those of the operation's reads and arithmetic, then 20: the buffer is too short.
 pub fn apply<'a>(
     profile: u8,
     operation: u8,
@@ -42,7 +43,7 @@ pub fn apply<'a>(
     )
 }
 
-// 1 of the source, 1 of the destination, 2, 19, the reads and the sum, then 20.
+// Refusal 1 of the source, 1 of the destination, 2, 19: no transfer, those of the reads and the sum, then 20: the buffer is too short.
 pub fn credit<'a>(
     operation: u8,
     source: &'a [u8],
@@ -74,8 +75,8 @@ fn next_state(profile: u8, operation: u8, state: &[u8], input: &[u8]) -> Next
     ensures { λ r. ⌜ r ≡ nextBy profile operation (sightOf (now (state .entry))) (field (now (input .entry))) ⌝ }
 {
     match profile {
-        1 => resource_state::holding::apply_stack(operation, state, input),
-        2 => resource_state::holding::apply_balance(operation, state, input),
+        op::STACK => resource_state::holding::apply_stack(operation, state, input),
+        op::BALANCE => resource_state::holding::apply_balance(operation, state, input),
         _ => resource_state::meter::apply_meter(operation, state, input),
     }
 }

@@ -10,6 +10,7 @@ use registry::error::Reading;
 use registry::given_or;
 use registry::input_amount;
 use registry::input_str;
+use registry::op;
 use registry::require_current;
 use registry::state_amount;
 use registry::state_str;
@@ -23,6 +24,31 @@ use sheet::QUANTITY;
 use sheet::TO_SUBJECT;
 use sheet::UNIT;
 
+pub(crate) fn transfer_after_state(
+    operation: u8,
+    source: &[u8],
+    destination: &[u8],
+    input: &[u8],
+) -> Next
+    ensures { λ r. ⌜ r ≡ creditBy amountIn (sightOf (now (source .entry))) (sightOf (now (destination .entry))) (field (now (input .entry))) operation ⌝ }
+{
+    if operation == op::STACK_TRANSFER {
+        return stack(
+            Part::Input(TO_SUBJECT),
+            Part::State(UNIT),
+            credited_amount(source, destination, input, QUANTITY, QUANTITY),
+        );
+    }
+    if operation == op::BALANCE_TRANSFER {
+        return balance(
+            Part::Input(TO_SUBJECT),
+            Part::State(UNIT),
+            credited_amount(source, destination, input, BALANCE, AMOUNT),
+        );
+    }
+    Next::Refused(ProfileError::NoCredit)
+}
+
 // What the destination has; nothing where it is absent.
 fn existing_amount(destination: &[u8], held: u8) -> Reading
     ensures { λ r. ⌜ r ≡ existing held (sightOf (now (destination .entry))) ⌝ }
@@ -33,7 +59,7 @@ fn existing_amount(destination: &[u8], held: u8) -> Reading
     state_amount(destination, held)
 }
 
-// An absent source is 6; in to_subject, source unit, in asked, the destination's, the sum.
+// Refusal 6: no source; then the input's to_subject, the source's unit, the amount asked for, what the destination has, the sum.
 fn credited_amount(source: &[u8], destination: &[u8], input: &[u8], held: u8, asked: u8) -> Reading
     ensures { λ r. ⌜ r ≡ creditedAmount amountIn (sightOf (now (source .entry))) (sightOf (now (destination .entry))) (field (now (input .entry))) held asked ⌝ }
 {
@@ -55,29 +81,4 @@ fn credited_amount(source: &[u8], destination: &[u8], input: &[u8], held: u8, as
         Reading::Failed(e) => return Reading::Failed(e),
     };
     given_or(existing.checked_add(amount), ProfileError::Overflow)
-}
-
-pub(crate) fn transfer_after_state(
-    operation: u8,
-    source: &[u8],
-    destination: &[u8],
-    input: &[u8],
-) -> Next
-    ensures { λ r. ⌜ r ≡ creditBy amountIn (sightOf (now (source .entry))) (sightOf (now (destination .entry))) (field (now (input .entry))) operation ⌝ }
-{
-    if operation == 5 {
-        return stack(
-            Part::Input(TO_SUBJECT),
-            Part::State(UNIT),
-            credited_amount(source, destination, input, QUANTITY, QUANTITY),
-        );
-    }
-    if operation == 15 {
-        return balance(
-            Part::Input(TO_SUBJECT),
-            Part::State(UNIT),
-            credited_amount(source, destination, input, BALANCE, AMOUNT),
-        );
-    }
-    Next::Refused(ProfileError::NoCredit)
 }

@@ -20,6 +20,31 @@ pub enum Put {
     Narrow,
 }
 
+pub fn put_stack(out: &mut [u8], subject: &[u8], unit: &[u8], quantity: Amount) -> Put
+    ensures { λ r. ⌜ (r ≡ putAnswer (stackSheet (now (subject .entry)) (now (unit .entry)) quantity) (now (out .entry)))
+        × (now (out .exit) ≡ putInto (stackSheet (now (subject .entry)) (now (unit .entry)) quantity) (now (out .entry))) ⌝ }
+{
+    let bytes = amount_bytes(quantity);
+    put_form(out, STACK_FORM, subject, unit, &bytes)
+}
+
+pub fn put_balance(out: &mut [u8], subject: &[u8], unit: &[u8], balance: Amount) -> Put
+    ensures { λ r. ⌜ (r ≡ putAnswer (balanceSheet (now (subject .entry)) (now (unit .entry)) balance) (now (out .entry)))
+        × (now (out .exit) ≡ putInto (balanceSheet (now (subject .entry)) (now (unit .entry)) balance) (now (out .entry))) ⌝ }
+{
+    let bytes = amount_bytes(balance);
+    put_form(out, BALANCE_FORM, subject, unit, &bytes)
+}
+
+pub fn put_meter(out: &mut [u8], subject: &[u8], remaining: Amount, maximum: Amount) -> Put
+    ensures { λ r. ⌜ (r ≡ putAnswer (meterSheet (now (subject .entry)) remaining maximum) (now (out .entry)))
+        × (now (out .exit) ≡ putInto (meterSheet (now (subject .entry)) remaining maximum) (now (out .entry))) ⌝ }
+{
+    let first = amount_bytes(remaining);
+    let second = amount_bytes(maximum);
+    put_form(out, METER_FORM, subject, &first, &second)
+}
+
 // Copies src into out from `at` on.
 fn copy_at(out: &mut [u8], at: usize, src: &[u8])
     requires { ⌜ at + length (now src) ≤ length (now out) ⌝ }
@@ -98,29 +123,4 @@ fn put_form(out: &mut [u8], form: Form, x: &[u8], y: &[u8], z: &[u8]) -> Put
     copy_at(out, second, y);
     copy_at(out, third, z);
     Put::Done(third + z.len())
-}
-
-pub fn put_stack(out: &mut [u8], subject: &[u8], unit: &[u8], quantity: Amount) -> Put
-    ensures { λ r. ⌜ (r ≡ putAnswer (stackSheet (now (subject .entry)) (now (unit .entry)) quantity) (now (out .entry)))
-        × (now (out .exit) ≡ putInto (stackSheet (now (subject .entry)) (now (unit .entry)) quantity) (now (out .entry))) ⌝ }
-{
-    let bytes = amount_bytes(quantity);
-    put_form(out, STACK_FORM, subject, unit, &bytes)
-}
-
-pub fn put_balance(out: &mut [u8], subject: &[u8], unit: &[u8], balance: Amount) -> Put
-    ensures { λ r. ⌜ (r ≡ putAnswer (balanceSheet (now (subject .entry)) (now (unit .entry)) balance) (now (out .entry)))
-        × (now (out .exit) ≡ putInto (balanceSheet (now (subject .entry)) (now (unit .entry)) balance) (now (out .entry))) ⌝ }
-{
-    let bytes = amount_bytes(balance);
-    put_form(out, BALANCE_FORM, subject, unit, &bytes)
-}
-
-pub fn put_meter(out: &mut [u8], subject: &[u8], remaining: Amount, maximum: Amount) -> Put
-    ensures { λ r. ⌜ (r ≡ putAnswer (meterSheet (now (subject .entry)) remaining maximum) (now (out .entry)))
-        × (now (out .exit) ≡ putInto (meterSheet (now (subject .entry)) remaining maximum) (now (out .entry))) ⌝ }
-{
-    let first = amount_bytes(remaining);
-    let second = amount_bytes(maximum);
-    put_form(out, METER_FORM, subject, &first, &second)
 }

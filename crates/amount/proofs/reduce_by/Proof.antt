@@ -7,11 +7,11 @@ use Rattle.amount.proofs.reduce_by.Tie as tie
 power-of-ten-requires : tie.Need-power-of-ten-requires
 power-of-ten-requires c κs = search needs
 
-cast-divide : tie.Need-cast-divide
-cast-divide c = record { fits = rw (c .power-of-ten .ensures) (nine-fit _ (search needs)) }
+cast-div-rem : tie.Need-cast-div-rem
+cast-div-rem c = record { fits = rw (c .power-of-ten .ensures) (nine-fit _ (search needs)) }
 
-divide-requires : tie.Need-divide-requires
-divide-requires c κs = rw (c .power-of-ten .ensures) (ten-pos _)
+div-rem-requires : tie.Need-div-rem-requires
+div-rem-requires c κs = rw (c .power-of-ten .ensures) (ten-pos _)
 
 cast-reduced-to : tie.Need-cast-reduced-to
 cast-reduced-to c = search needs
@@ -21,7 +21,7 @@ reduced-to-requires c κs = search needs
 
 returns : tie.Need-returns
 returns c =
-    let e = rw (c .before .before .before .power-of-ten .ensures) at (c .before .before .divide .ensures) in
+    let e = rw (c .before .before .before .power-of-ten .ensures) at (c .before .before .div-rem .ensures) in
     λ n j h. c .reduced-to .ensures n j _ h (division-val _ _ e) (division-left _ _ e)
 
 pub reduce-by-spec : {M : Type 1} → statement M
@@ -29,8 +29,8 @@ reduce-by-spec =
     tie.close
     (tie.spec
     power-of-ten-requires
-    cast-divide
-    divide-requires
+    cast-div-rem
+    div-rem-requires
     cast-reduced-to
     reduced-to-requires
     returns)

@@ -12,23 +12,23 @@ cmp-requires c κs = search needs
 returns : tie.Need-returns
 returns c = c .cmp .ensures ∙ compare-same _ _ (c .before .if1 .taken)
 
-sub-beside : tie.Need-sub-beside
-sub-beside c = search needs
+sub-cmp-rescaled : tie.Need-sub-cmp-rescaled
+sub-cmp-rescaled c = search needs
 
-beside-requires : tie.Need-beside-requires
-beside-requires c κs = search needs
+cmp-rescaled-requires : tie.Need-cmp-rescaled-requires
+cmp-rescaled-requires c κs = search needs
 
 returns-2 : tie.Need-returns-2
-returns-2 c = c .beside .ensures ∙ compare-up _ _ (omega arith)
+returns-2 c = c .cmp-rescaled .ensures ∙ compare-up _ _ (omega arith)
 
-beside-requires-2 : tie.Need-beside-requires-2
-beside-requires-2 c κs = search needs
+cmp-rescaled-requires-2 : tie.Need-cmp-rescaled-requires-2
+cmp-rescaled-requires-2 c κs = search needs
 
 reverse-requires : tie.Need-reverse-requires
 reverse-requires c κs = search needs
 
 returns-3 : tie.Need-returns-3
-returns-3 c = c .reverse .ensures ∙ ap reverseOf (c .before .beside2 .ensures ∙ compare-up _ _ (omega arith)) ∙ compare-reversed _ _
+returns-3 c = c .reverse .ensures ∙ ap reverseOf (c .before .cmp-rescaled2 .ensures ∙ compare-up _ _ (omega arith)) ∙ compare-reversed _ _
 
 pub cmp-spec : {M : Type 1} → statement M
 cmp-spec =
@@ -36,9 +36,9 @@ cmp-spec =
     (tie.spec
     cmp-requires
     returns
-    sub-beside
-    beside-requires
+    sub-cmp-rescaled
+    cmp-rescaled-requires
     returns-2
-    beside-requires-2
+    cmp-rescaled-requires-2
     reverse-requires
     returns-3)

@@ -90,14 +90,14 @@ power-of-ten-requires c κs = search needs
 cast-power : tie.Need-cast-power Inv-loop μ-loop
 cast-power c = record { fits = rw (c .power-of-ten .ensures) (nine-fit _ (search needs)) }
 
-cast-times-plus : tie.Need-cast-times-plus Inv-loop μ-loop
-cast-times-plus c =
+cast-mul-add : tie.Need-cast-mul-add Inv-loop μ-loop
+cast-mul-add c =
     let w = end-within (c .before .before .before .before .before .before) in
     let x = next-small (c .before .before .before .before .before .before .before .before .loop .inv) _ (w .0) (w .1) _ (sym (c .before .before .word .given .1) ∙ c .before .before .before .before .word-of2 .ensures) in
     record { fits = lt-trans x (nine-fit _ (omega (arith, w .2))) }
 
-times-plus-requires : tie.Need-times-plus-requires Inv-loop μ-loop
-times-plus-requires c κs = search needs
+mul-add-requires : tie.Need-mul-add-requires Inv-loop μ-loop
+mul-add-requires c κs = search needs
 
 enum-known-next : tie.Need-enum-known-next Inv-loop μ-loop
 enum-known-next c = search needs
@@ -108,7 +108,7 @@ enum-told-3 c = search needs
 returns-5 : tie.Need-returns-5 Inv-loop μ-loop
 returns-5 c =
     let w = end-within (c .before .before .before .before .before .before .before .before .before) in
-    let e = sym (c .enum-told3 .given .1) ∙ c .before .before .times-plus .ensures in
+    let e = sym (c .enum-told3 .given .1) ∙ c .before .before .mul-add .ensures in
     next-large (c .before .before .before .before .before .before .before .before .before .before .before .loop .inv) _ (w .0) (w .1) _ (sym (c .before .before .before .before .before .word .given .1) ∙ c .before .before .before .before .before .before .before .word-of2 .ensures) (rw (c .before .before .before .power-of-ten .ensures) at e)
 
 loop-less : tie.Need-loop-less Inv-loop μ-loop
@@ -117,7 +117,7 @@ loop-less c = search needs
 loop-again : tie.Need-loop-again Inv-loop μ-loop
 loop-again c =
     let w = end-within (c .before .before .before .before .before .before .before .before .before .before) in
-    let e = sym (c .before .next .given .1) ∙ c .before .before .before .times-plus .ensures in
+    let e = sym (c .before .next .given .1) ∙ c .before .before .before .mul-add .ensures in
     next-some (c .before .before .before .before .before .before .before .before .before .before .before .before .loop .inv) _ (w .0) (w .1) _ (sym (c .before .before .before .before .before .before .word .given .1) ∙ c .before .before .before .before .before .before .before .before .word-of2 .ensures) _ (rw (c .before .before .before .before .power-of-ten .ensures) at e)
 
 returns-6 : tie.Need-returns-6 Inv-loop μ-loop
@@ -151,8 +151,8 @@ try-from-str-spec =
     cast-power-of-ten
     power-of-ten-requires
     cast-power
-    cast-times-plus
-    times-plus-requires
+    cast-mul-add
+    mul-add-requires
     enum-known-next
     enum-told-3
     returns-5

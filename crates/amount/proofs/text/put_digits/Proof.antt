@@ -19,8 +19,8 @@ abbrev μ-loop : tie.MeasureT-loop
 loop-holds : tie.Need-loop-holds Inv-loop μ-loop
 loop-holds c = (search needs, refl, writing-none _ _ _)
 
-divide-requires : tie.Need-divide-requires Inv-loop μ-loop
-divide-requires c κs = search needs
+div-rem-requires : tie.Need-div-rem-requires Inv-loop μ-loop
+div-rem-requires c κs = search needs
 
 sub-if2 : tie.Need-sub-if2 Inv-loop μ-loop
 sub-if2 c = search needs
@@ -43,7 +43,7 @@ same-length c = search needs
 returns : tie.Need-returns Inv-loop μ-loop
 returns c =
     let l = c .before .before .before .before .before .before .before .before .before .loop in
-    let d = c .before .before .before .before .before .before .divide in
+    let d = c .before .before .before .before .before .before .div-rem in
     writing-all _ (omega arith) (writing-more (l .inv .2) _ _ (d .result .rest) refl (rest-digits _ (val (l .rest)) (d .ensures) (c .before .before .before .before .before .if2 .taken)) _ (c .before .before .put-word .ensures))
 
 sub-put-word-3 : tie.Need-sub-put-word-3 Inv-loop μ-loop
@@ -64,7 +64,7 @@ loop-less c = search needs
 loop-again : tie.Need-loop-again Inv-loop μ-loop
 loop-again c =
     let l = c .before .before .before .before .before .before .before .before .before .before .loop in
-    let d = c .before .before .before .before .before .before .before .divide in (
+    let d = c .before .before .before .before .before .before .before .div-rem in (
       search needs,
       search needs,
       writing-more (l .inv .2) 9 _ (d .result .rest) (division-val (val (l .rest)) (10 ^ 9) (d .ensures)) (rest-digits 9 (val (l .rest)) (d .ensures) (omega arith)) _ (c .before .before .before .put-word2 .ensures),
@@ -94,7 +94,7 @@ put-digits-spec =
     Inv-loop
     μ-loop
     loop-holds
-    divide-requires
+    div-rem-requires
     sub-if2
     sub-put-word
     sub-put-word-2

@@ -17,8 +17,8 @@ abbrev μ-loop : tie.MeasureT-loop
 loop-holds : tie.Need-loop-holds Inv-loop μ-loop
 loop-holds c = (search needs, quotient-start _ _ (omega arith))
 
-divide-requires : tie.Need-divide-requires Inv-loop μ-loop
-divide-requires c κs = search needs
+div-rem-requires : tie.Need-div-rem-requires Inv-loop μ-loop
+div-rem-requires c κs = search needs
 
 sub-left : tie.Need-sub-left Inv-loop μ-loop
 sub-left c = search needs
@@ -27,20 +27,20 @@ loop-less : tie.Need-loop-less Inv-loop μ-loop
 loop-less c = search needs
 
 loop-again : tie.Need-loop-again Inv-loop μ-loop
-loop-again c = (search needs, division-val _ _ (c .before .divide .ensures) ∙ quotient-more _ _ 9 _ (omega arith) (c .before .before .before .loop .inv .1))
+loop-again c = (search needs, division-val _ _ (c .before .div-rem .ensures) ∙ quotient-more _ _ 9 _ (omega arith) (c .before .before .before .loop .inv .1))
 
 power-of-ten-requires : tie.Need-power-of-ten-requires Inv-loop μ-loop
 power-of-ten-requires c κs = search needs
 
-cast-divide : tie.Need-cast-divide Inv-loop μ-loop
-cast-divide c = record { fits = rw (c .power-of-ten .ensures) (nine-fit _ (search needs)) }
+cast-div-rem : tie.Need-cast-div-rem Inv-loop μ-loop
+cast-div-rem c = record { fits = rw (c .power-of-ten .ensures) (nine-fit _ (search needs)) }
 
-divide-requires-2 : tie.Need-divide-requires-2 Inv-loop μ-loop
-divide-requires-2 c κs = rw (c .power-of-ten .ensures) (ten-pos _)
+div-rem-requires-2 : tie.Need-div-rem-requires-2 Inv-loop μ-loop
+div-rem-requires-2 c κs = rw (c .power-of-ten .ensures) (ten-pos _)
 
 returns : tie.Need-returns Inv-loop μ-loop
 returns c =
-    let e = rw (c .before .before .power-of-ten .ensures) at (c .before .divide2 .ensures) in
+    let e = rw (c .before .before .power-of-ten .ensures) at (c .before .div-rem2 .ensures) in
     division-val _ _ e ∙ quotient-more _ _ _ _ (omega arith) (c .before .before .before .before .loop .inv .1)
 
 pub whole-part-spec : {M : Type 1} → statement M
@@ -50,11 +50,11 @@ whole-part-spec =
     Inv-loop
     μ-loop
     loop-holds
-    divide-requires
+    div-rem-requires
     sub-left
     loop-less
     loop-again
     power-of-ten-requires
-    cast-divide
-    divide-requires-2
+    cast-div-rem
+    div-rem-requires-2
     returns)

@@ -18,8 +18,8 @@ abbrev μ-loop : tie.MeasureT-loop
 loop-holds : tie.Need-loop-holds Inv-loop μ-loop
 loop-holds c = counting-none _ (whole-of _ (omega arith) (omega arith) .fits)
 
-divide-requires : tie.Need-divide-requires Inv-loop μ-loop
-divide-requires c κs = search needs
+div-rem-requires : tie.Need-div-rem-requires Inv-loop μ-loop
+div-rem-requires c κs = search needs
 
 add-count : tie.Need-add-count Inv-loop μ-loop
 add-count c = record { fits = omega (arith, counting-room (c .before .before .before .before .loop .inv)) }
@@ -30,7 +30,7 @@ loop-less c = omega (arith, counting-room (c .before .before .before .before .lo
 loop-again : tie.Need-loop-again Inv-loop μ-loop
 loop-again c =
     let l = c .before .before .before .before .loop in
-    rw (division-val (val (l .rest)) (10 ^ 9) (c .before .divide .ensures)) (counting-more (l .inv) 9 (val-wide (l .rest) (c .before .before .if1 .taken)))
+    rw (division-val (val (l .rest)) (10 ^ 9) (c .before .div-rem .ensures)) (counting-more (l .inv) 9 (val-wide (l .rest) (c .before .before .if1 .taken)))
 
 word-width-requires : tie.Need-word-width-requires Inv-loop μ-loop
 word-width-requires c κs = search needs
@@ -51,7 +51,7 @@ width-spec =
     Inv-loop
     μ-loop
     loop-holds
-    divide-requires
+    div-rem-requires
     add-count
     loop-less
     loop-again

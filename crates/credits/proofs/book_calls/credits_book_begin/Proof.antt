@@ -1,4 +1,4 @@
--- `credits::credits_book_begin` meets its contract: a walk of its MIR, by hand. The book is handed on to `lent::step_in`. Written by tools/hand_on. Assumes nothing.
+-- `credits::credits_book_begin` meets its contract: a walk of its MIR, by hand. The book is handed on to `lent::step_in`. Written by tools/proof/hand_on. Assumes nothing.
 use mathlib.Core.Path.{refl}
 use Prim.Native.Nat.{ℕ, _<_, _^_}
 use mathlib.Core.List.{[], _∷_, List}

@@ -4,8 +4,8 @@ use native.Mathlib.Omega.{arith}
 use Prim.Native.Nat.{_%_}
 use mathlib.Core.Path.{sym}
 use borrow.Author.Needs.{needs}
-use Rattle.amount.proofs.uint128.divide.Statement.{statement}
-use Rattle.amount.proofs.uint128.divide.Tie as tie
+use Rattle.amount.proofs.uint128.div_rem.Statement.{statement}
+use Rattle.amount.proofs.uint128.div_rem.Tie as tie
 
 div-t6 : tie.Need-div-t6
 div-t6 c = search needs
@@ -41,8 +41,8 @@ returns-2 c =
     let d = c .before .before .before .before .before .before .args .divisor in
     division-is _ _ _ d (low .ensures .2) (low .ensures .1) (division-halves _ n (n .hi % d) _ d (sym (div-add-mod' (n .hi) d)) (low .ensures .0))
 
-pub divide-spec : {M : Type 1} → statement M
-divide-spec =
+pub div-rem-spec : {M : Type 1} → statement M
+div-rem-spec =
     tie.close
     (tie.spec
     div-t6

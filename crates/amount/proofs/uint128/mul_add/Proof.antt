@@ -2,8 +2,8 @@ use Rattle.amount.specs.Numbers.{val}
 use Rattle.amount.proofs.Halves.{checked-number, checked-outside, times-halves, no-carry, carry-past}
 use Prim.Native.Nat.{_+_, _*_, _^_}
 use borrow.Author.Needs.{needs}
-use Rattle.amount.proofs.uint128.times_plus.Statement.{statement}
-use Rattle.amount.proofs.uint128.times_plus.Tie as tie
+use Rattle.amount.proofs.uint128.mul_add.Statement.{statement}
+use Rattle.amount.proofs.uint128.mul_add.Tie as tie
 
 times-word-requires : tie.Need-times-word-requires
 times-word-requires c κs = search needs
@@ -24,6 +24,6 @@ returns-2 c =
     let high = c .before .before .times-word2 in
     checked-number _ _ (high .ensures .1) (low .ensures .1) (times-halves _ _ _ _ _ _ (low .ensures .0) (no-carry _ _ _ (c .if1 .left) (high .ensures .0)))
 
-pub times-plus-spec : {M : Type 1} → statement M
-times-plus-spec =
+pub mul-add-spec : {M : Type 1} → statement M
+mul-add-spec =
     tie.close (tie.spec times-word-requires times-word-requires-2 returns returns-2)

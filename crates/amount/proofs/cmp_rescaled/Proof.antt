@@ -2,8 +2,8 @@ use Rattle.amount.proofs.Scaling.{beside-less, beside-equal, beside-res
 use Rattle.amount.proofs.Halves.{order-is}
 use mathlib.Core.Path.{_∙_, sym}
 use borrow.Author.Needs.{needs}
-use Rattle.amount.proofs.beside.Statement.{statement}
-use Rattle.amount.proofs.beside.Tie as tie
+use Rattle.amount.proofs.cmp_rescaled.Statement.{statement}
+use Rattle.amount.proofs.cmp_rescaled.Tie as tie
 
 reduce-requires : tie.Need-reduce-requires
 reduce-requires c κs = search needs
@@ -36,8 +36,8 @@ returns-4 : tie.Need-returns-4
 returns-4 c =
     beside-greater (c .before .before .before .reduce .ensures) _ (order-is _ _ (sym (c .enum-told3 .given .1) ∙ c .before .before .cmp .ensures))
 
-pub beside-spec : {M : Type 1} → statement M
-beside-spec =
+pub cmp-rescaled-spec : {M : Type 1} → statement M
+cmp-rescaled-spec =
     tie.close
     (tie.spec
     reduce-requires
