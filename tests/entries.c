@@ -298,6 +298,9 @@ static const write_case applies[] = {
     /* stack */
     WRITES(1, 1, NULL, "1:N1 2:rd 3:5", STACK),
     WRITES(1, 1, METER, "1:N1 2:rd 3:5", STACK), /* the old state is not looked at */
+    REFUSES(1, 1, "", "1:N1 2:rd 3:5", 1, 1),    /* but it is judged */
+    REFUSES(2, 11, "", "1:N1 2:rd 4:5", 1, 1),
+    REFUSES(3, 21, "", "1:N1 5:5 6:5", 1, 1),
     WRITES(1, 1, NULL, "1*256 2*256 3:" MOST, "1*256 2*256 3#M/0"), /* the longest: 548 bytes */
     WRITES(1, 2, STACK, "3:4", "1:N1 2:rd 3#9/0"),
     REFUSES(1, 2, METER, "3:4", 12, 2),
@@ -336,6 +339,7 @@ static const write_case applies[] = {
     WRITES(3, 22, METER, "7:2", "1:N1 5#3/0 6#9/0"),
     REFUSES(3, 22, STACK, "7:2", 12, 6),
     WRITES(3, 23, METER, "", "1:N1 5#9/0 6#9/0"),
+    WRITES(3, 23, "1:N1 5#5/3 6#9/2", "", "1:N1 5#9/2 6#9/2"), /* the scale too */
     WRITES(3, 24, METER, "6:3", "1:N1 5#3/0 6#3/0"),
     WRITES(3, 24, METER, "6:7", "1:N1 5#5/0 6#7/0"),
     WRITES(3, 24, "1:N1 5#50/1 6#9/0", "6:5", "1:N1 5#50/1 6#5/0"), /* a tie keeps its scale */
@@ -359,6 +363,8 @@ static const write_case payments[] = {
     PAYS_NOT(14, BALANCE, NULL, "7:5 8:N2", 19, 0),
     PAYS_NOT(15, NULL, NULL, "7:5 8:N2", 6, 0),
     PAYS_NOT(14, NULL, NULL, "7:5 8:N2", 19, 0), /* 19 before 6 */
+    PAYS_NOT(15, NULL, NULL, "7:5", 6, 0),       /* 6 before to_subject */
+    PAYS_NOT(5, NULL, NULL, "3:5", 6, 0),
     PAYS_NOT(14, "", "", NULL, 1, 1),            /* the source first */
     PAYS_NOT(14, BALANCE, "", NULL, 1, 2),
     PAYS_NOT(14, BALANCE, NULL, NULL, 2, 0),
