@@ -1,6 +1,6 @@
 -- The theorems on amounts that docs/PROOFS.md names. An amount is one of document 01: its mantissa is below 2^128.
 use Prim.Native.Nat.{ℕ, suc, _+_, _-_, _*_, _%_, _^_, _<_, _≤_}
-use mathlib.Core.Path.{_≡_, ap, sym, _∙_}
+use mathlib.Core.Path.{_≡_, refl, ap, sym, _∙_}
 use mathlib.Core.Logic.{_⊎_, ⊎-elim}
 use mathlib.Core.Bool.{true, _&&_}
 use native.Mathlib.Omega.{arith}
@@ -11,9 +11,10 @@ use borrow.Author.Tests.{leb-true}
 use Rattle.amount.specs.Numbers.{val, limit, halves}
 use Rattle.amount.specs.Canonical.{strip, lowest, wholeText, decimalText, canonicalText}
 use Rattle.amount.specs.Texts.{digitsIn, placesIn, Same, SameValue, InRange, Canonical}
-use Rattle.amount.specs.Amounts.{readOf, compareOf, commonScale, mantissaAt, sumOf, differenceOf}
+use Rattle.amount.specs.Amounts.{readOf, compareOf, commonScale, mantissaAt, sumOf, differenceOf, givenOf}
 use Rattle.amount.specs.declared.Amount.{Amount}
-use Rattle.amount.specs.declared.AmountResult.the-variants.{Ok, Overflow, Underflow}
+use Rattle.amount.specs.declared.AmountResult.{AmountResult}
+use Rattle.amount.specs.declared.AmountResult.the-variants.{Ok, NotWhole, Overflow, Underflow}
 use Rattle.amount.specs.declared.uint128.Ordering.the-variants.{Greater}
 use Rattle.amount.proofs.Scaling.{ten-pos, ten-join}
 use Rattle.amount.proofs.Widths.{below-or-not}
@@ -22,6 +23,16 @@ use Rattle.amount.proofs.Assembling.{width-few}
 use Rattle.amount.proofs.Reading.{read-given, if-is, and-right}
 use Rattle.amount.proofs.Halves.{val-halves, OrderFact, order-fact, order-is}
 use Rattle.amount.proofs.Stripping.{stripped-lowest}
+
+-- The number of an amount called alone is 0 exactly where one is given, and then that is the amount.
+pub zero-is-given : (r : AmountResult) → givenOf r .number ≡ 0 → r ≡ Ok (givenOf r .amount)
+zero-is-given (Ok a) h = refl
+zero-is-given NotWhole h = absurd (omega arith)
+zero-is-given Overflow h = absurd (omega arith)
+zero-is-given Underflow h = absurd (omega arith)
+
+pub given-is-zero : (a : Amount) → givenOf (Ok a) .number ≡ 0
+given-is-zero a = refl
 
 -- The order of amounts is that of their exact values, cross-multiplied, at every pair of scales.
 pub order-is-exact : (a b : Amount) → OrderFact (compareOf a b) (val (a .mantissa) * 10 ^ (b .scale)) (val (b .mantissa) * 10 ^ (a .scale))

@@ -1,16 +1,15 @@
 -- What an accepted step does to an account, in bytes: what apply writes for the account's sheet, and credit for the destination's, is the
 -- account's sheet after the step.
 use mathlib.Core.Path.{_≡_, refl, sym, ap, _∙_}
-use mathlib.Core.Bool.{true, false, false≢true}
+use mathlib.Core.Bool.{true, false}
 use mathlib.Core.Option.{some, none}
 use mathlib.Core.List.{List, [], _∷_}
 use Prim.Native.Nat.{ℕ, _+_, _-_, _^_, _<_}
 use native.Mathlib.Decide.{ℕ-discrete}
 use native.Mathlib.Omega.{arith}
-use lib.Dec.{eqb}
 use lib.ListN.{length}
 use lib.Seq.{getD-set-same}
-use borrow.Author.Tests.{eqb-true, ne-eqb}
+use borrow.Author.Tests.{ne-eqb}
 use Rattle.amount.specs.Numbers.{limit, halves}
 use Rattle.amount.specs.Decimal.{allDigits, digitsAfter, decimal}
 use Rattle.amount.specs.Amounts.{amountIf, readOf}
@@ -35,7 +34,7 @@ use Rattle.transition.specs.Credit.{creditOf}
 use Rattle.transition.specs.Written.{bufferAfter}
 use Rattle.book.specs.Places.{putField}
 use Rattle.book.specs.Book.{credits, wholeAmount, nameBytes, nameOf, noPlace, noTransfer, blankTransfer, placeRecord, transferRecord, placeAt, transferAt, isSome, transferOk, openPlace, setRecord, setCredits, setTransfer}
-use Rattle.book.specs.Steps.{Open, Act, Begin, Finish, creditsIn, bytesIn, changed, sameBytes, heldAt, seen, answer, next}
+use Rattle.book.specs.Steps.{Open, Act, Begin, Finish, creditsIn, bytesIn, changed, heldAt, seen, answer, next}
 use Rattle.book.specs.declared.Place.{Place}
 use Rattle.book.specs.declared.Transfer.{Transfer}
 use Rattle.book.specs.declared.Book.{Book}
@@ -44,13 +43,13 @@ use Rattle.book.proofs.Worked.{asking, second-left}
 use Rattle.book.proofs.AcceptedOrRefused.{answered}
 use Rattle.book.proofs.Tables.{entry-drop}
 use Rattle.book.proofs.Names.{name-bytes}
-use Rattle.book.proofs.Formed.{Formed, formed, and-l, and-r}
+use Rattle.book.proofs.Formed.{Formed, formed}
 use Rattle.book.proofs.Views.{transfer-raw, open-lt, home-open}
 use Rattle.book.proofs.Facts.{accepted-tests, Opens, opens, Acts, acts-so, Begins, begins, Finishes, finishes}
 use Rattle.book.proofs.Invariant.{view-there}
 use Rattle.book.proofs.Whole.{next-accepted}
 use Rattle.book.proofs.Applies.{Named, made, open-there, transfer-there, open-is-apply, act-is-apply, begin-is-apply, finish-is-credit}
-use Rattle.book.proofs.Accounts.{seen-next, no-sheet, closed-seen, sheetAt, account-fields, account-sound, account-seen, sheet-is-input, of-balances, SentTo, sent-is}
+use Rattle.book.proofs.Accounts.{seen-next, no-sheet, closed-seen, sheetAt, account-fields, account-sound, account-seen, sheet-is-input, of-balances, SentTo, sent-is, same-bytes}
 
 -- ---- what is written, and the account afterwards
 
@@ -59,15 +58,6 @@ written : (n : Next) (s i : List ℕ) (x y : Part) (a : Amount) (old : List ℕ)
     → bufferAfter n s i old ≡ putInto (balanceSheet (textFrom (field s) (field i) x) (textFrom (field s) (field i) y) a) old
 unfolding bufferAfter sheetOf
 written n s i x y a old e = rw e
-
-same-bytes : (x y : List ℕ) → sameBytes x y ≡ true → x ≡ y
-same-bytes [] [] h = refl
-same-bytes [] (y ∷ ys) h = absurd (false≢true h)
-same-bytes (x ∷ xs) [] h = absurd (false≢true h)
-same-bytes (x ∷ xs) (y ∷ ys) h =
-    let e = eqb-true x y (and-l (eqb x y) (sameBytes xs ys) h) in
-    let r = same-bytes xs ys (and-r (eqb x y) (sameBytes xs ys) h) in
-    rw (e, r)
 
 -- the record of a place that was opened, or set
 opened-record : (b : Book) (p : ℕ) (x : Place) → length (b .places) ≡ 16 → p < 16 → placeRecord (openPlace b p x) p ≡ x

@@ -2,14 +2,14 @@
 -- answers for the account's sheet.
 use mathlib.Core.Path.{_≡_, refl, sym, ap, _∙_, fun-ext}
 use mathlib.Core.Logic.{_≢_}
-use mathlib.Core.Bool.{Bool, true, false, not}
+use mathlib.Core.Bool.{Bool, true, false, not, false≢true}
 use mathlib.Core.List.{List, [], _∷_}
 use Prim.Native.Nat.{ℕ, zero, suc, _+_, _≤_, _<_}
 use native.Mathlib.Decide.{ℕ-discrete}
 use native.Mathlib.Omega.{arith}
 use lib.Dec.{eqb, leb, ltb}
 use lib.ListN.{length, take}
-use borrow.Author.Tests.{ne-eqb, leb-true}
+use borrow.Author.Tests.{ne-eqb, eqb-true, leb-true}
 use Rattle.amount.specs.Numbers.{limit}
 use Rattle.amount.specs.declared.Amount.{Amount}
 use Rattle.sheet.specs.Sheet.{entriesFrom, lookup, stateOf, verdictOf}
@@ -38,7 +38,7 @@ use Rattle.book.specs.declared.Book.{Book}
 use Rattle.book.specs.declared.error.BookOutcome.{BookOutcome}
 use Rattle.book.specs.declared.error.BookOutcome.the-variants.{Accepted}
 use Rattle.book.proofs.Rows.{among-all}
-use Rattle.book.proofs.Formed.{Formed, formed, and-r}
+use Rattle.book.proofs.Formed.{Formed, formed, and-l, and-r}
 use Rattle.book.proofs.Views.{place-raw}
 use Rattle.book.proofs.Invariant.{is-none}
 use Rattle.book.proofs.Answers.{open-is-check, act-is-check, begin-is-check}
@@ -148,6 +148,15 @@ sheet-is-input i h = go (verdictOf Input i) refl h
     go : (v : Verdict) → verdictOf Input i ≡ v → said (inputSound v) ≡ Accepted → verdictOf Input i ≡ Verdict.Sound
     go Verdict.Sound e k = e
     go Verdict.Torn e k = let q : _≡_ {A = ℕ} 0 1 = cc in absurd (omega arith)
+
+pub same-bytes : (x y : List ℕ) → sameBytes x y ≡ true → x ≡ y
+same-bytes [] [] h = refl
+same-bytes [] (y ∷ ys) h = absurd (false≢true h)
+same-bytes (x ∷ xs) [] h = absurd (false≢true h)
+same-bytes (x ∷ xs) (y ∷ ys) h =
+    let e = eqb-true x y (and-l (eqb x y) (sameBytes xs ys) h) in
+    let r = same-bytes xs ys (and-r (eqb x y) (sameBytes xs ys) h) in
+    rw (e, r)
 
 -- an operation of act is one of the balance profile
 Balances : ℕ → Type 0

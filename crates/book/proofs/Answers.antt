@@ -6,7 +6,7 @@ use mathlib.Core.Bool.{Bool, true, false}
 use mathlib.Core.List.{List}
 use Prim.Native.Nat.{ℕ, _+_, _≤_, _<_}
 use native.Mathlib.Omega.{arith}
-use lib.ListN.{length, set}
+use lib.ListN.{length, getD, set}
 use lib.Seq.{getD-set-other}
 use borrow.Author.Tests.{lt-leb, le-ltb, ne-eqb}
 use Rattle.amount.specs.Numbers.{limit}
@@ -17,7 +17,7 @@ use Rattle.registry.specs.declared.error.Outcome.the-variants as Check
 use Rattle.registry.proofs.Words as profile
 use Rattle.profiles.specs.Balance.{balanceRules}
 use Rattle.book.specs.Sets.{withBit, entry}
-use Rattle.book.specs.Book.{nameBytes, noPlace, noTransfer, placeAt, transferRecord, transferAt, total, isSome, wellFormed, openPlace, setRecord, setTransfer}
+use Rattle.book.specs.Book.{nameBytes, noPlace, noTransfer, placeRecord, placeAt, transferRecord, transferAt, total, isSome, wellFormed, openPlace, setRecord, setTransfer}
 use Rattle.book.specs.Steps.{Step, Open, Act, Begin, Finish, creditsIn, bytesIn, doing, acts, said, sameBytes, afterCheck, sheetSound, sentTo, testsOpen, testsAct, testsBegin, seen, answer, effect, next}
 use Rattle.book.specs.Refusals.{bookRefusalOf, bookAnswerOf}
 use Rattle.book.specs.declared.Book.{Book}
@@ -125,47 +125,54 @@ Names (Begin f g t i) q = q ≡ t
 Names (Finish t) q = q ≡ t
 
 module _ {A : Type 0} (d : A) (n : ℕ) (l : List A) (p : ℕ) (x : A) (q : ℕ) (apart : q ≢ p) where
-  set-elsewhere : entry d n (set l p x) q ≡ entry d n l q
+  set-elsewhere : (entry d n (set l p x) q ≡ entry d n l q) × (getD (set l p x) q d ≡ getD l q d)
   unfolding entry
-  set-elsewhere = rw (getD-set-other l p q x d apart)
+  set-elsewhere = let e = getD-set-other l p q x d apart in (rw e, e)
 
-  put-elsewhere : (k : ℕ) → k < 2 → entry d (withBit n p k) (set l p x) q ≡ entry d n l q
+  put-elsewhere : (k : ℕ) → k < 2 → (entry d (withBit n p k) (set l p x) q ≡ entry d n l q) × (getD (set l p x) q d ≡ getD l q d)
   unfolding entry
-  put-elsewhere k h = rw (bit-other n p q k h apart, getD-set-other l p q x d apart)
+  put-elsewhere k h = let e = getD-set-other l p q x d apart in (rw (bit-other n p q k h apart, e), e)
+
+-- place q, and transfer q: whether it is in use, and its record, in use or not
+abbrev pub SamePlace : Book → Book → ℕ → Type 0
+SamePlace b c q = (placeAt c q ≡ placeAt b q) × (placeRecord c q ≡ placeRecord b q)
+
+abbrev pub SameTransfer : Book → Book → ℕ → Type 0
+SameTransfer b c q = (transferAt c q ≡ transferAt b q) × (transferRecord c q ≡ transferRecord b q)
 
 module _ (b : Book) (q : ℕ) where
-  place-kept : (s : Step) → q ≢ accountOf b s → placeAt (effect b s) q ≡ placeAt b q
-  unfolding placeAt openPlace setRecord setTransfer
+  place-kept : (s : Step) → q ≢ accountOf b s → SamePlace b (effect b s) q
+  unfolding placeAt placeRecord openPlace setRecord setTransfer
   place-kept (Open p i) h = put-elsewhere noPlace (b .opened) (b .places) p _ q h 1 (omega arith)
   place-kept (Act p o i) h = set-elsewhere noPlace (b .opened) (b .places) p _ q h
   place-kept (Begin f g t i) h = set-elsewhere noPlace (b .opened) (b .places) f _ q h
   place-kept (Finish t) h = set-elsewhere noPlace (b .opened) (b .places) (transferRecord b t .to) _ q h
 
-  transfer-kept : (s : Step) → (Names s q → ⊥) → transferAt (effect b s) q ≡ transferAt b q
-  unfolding transferAt openPlace setRecord setTransfer
-  transfer-kept (Open p i) h = refl
-  transfer-kept (Act p o i) h = refl
+  transfer-kept : (s : Step) → (Names s q → ⊥) → SameTransfer b (effect b s) q
+  unfolding transferAt transferRecord openPlace setRecord setTransfer
+  transfer-kept (Open p i) h = (refl, refl)
+  transfer-kept (Act p o i) h = (refl, refl)
   transfer-kept (Begin f g t i) h = put-elsewhere noTransfer (b .pending) (b .transfers) t _ q h 1 (omega arith)
   transfer-kept (Finish t) h = put-elsewhere noTransfer (b .pending) (b .transfers) t _ q h 0 (omega arith)
 
   module _ (s : Step) where
-    -- every other place is as it was
-    pub other-places : q ≢ accountOf b s → placeAt (next b s) q ≡ placeAt b q
+    -- every other place is as it was, closed or not
+    pub other-places : q ≢ accountOf b s → SamePlace b (next b s) q
     unfolding next
     other-places h = go (answer b s) refl
       where
-        go : (o : BookOutcome) → answer b s ≡ o → placeAt (next b s) q ≡ placeAt b q
+        go : (o : BookOutcome) → answer b s ≡ o → SamePlace b (next b s) q
         go Accepted e = rw e (place-kept s h)
-        go (Refused r) e = rw e
+        go (Refused r) e = rw e (refl, refl)
 
-    -- every other transfer is as it was
-    pub other-transfers : (Names s q → ⊥) → transferAt (next b s) q ≡ transferAt b q
+    -- every other transfer is as it was, under way or not
+    pub other-transfers : (Names s q → ⊥) → SameTransfer b (next b s) q
     unfolding next
     other-transfers h = go (answer b s) refl
       where
-        go : (o : BookOutcome) → answer b s ≡ o → transferAt (next b s) q ≡ transferAt b q
+        go : (o : BookOutcome) → answer b s ≡ o → SameTransfer b (next b s) q
         go Accepted e = rw e (transfer-kept s h)
-        go (Refused r) e = rw e
+        go (Refused r) e = rw e (refl, refl)
 
     pub same-unit : next b s .unit ≡ b .unit
     unfolding next openPlace setRecord setTransfer

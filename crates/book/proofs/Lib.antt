@@ -22,5 +22,6 @@ pub mod Answers
 pub mod Effects
 pub mod Applies
 pub mod Accounts
+pub mod AccountViews
 pub mod AccountBytes
 pub mod Refuted

@@ -1,4 +1,4 @@
--- For the private functions of `registry`.
+-- For the functions of `registry` that C does not get: no exported contract speaks of these.
 use mathlib.Core.Bool.{cond}
 use Prim.Native.Nat.{ℕ}
 use Rattle.amount.specs.Amounts.{readOf}
