@@ -1,4 +1,5 @@
 -- The laws of the definitions, which the proofs cite, and the theorems that docs/PROOFS.md names.
+pub mod Examples
 pub mod Halves
 pub mod Reading
 pub mod Scaling
