@@ -18,7 +18,7 @@ use Rattle.amount.specs.declared.uint128.Ordering.the-variants.{Less, Equal, Gr
 use Rattle.amount.specs.declared.AmountResult.{AmountResult}
 use Rattle.amount.specs.declared.AmountResult.the-variants as Read
 use Rattle.amount.proofs.Halves.{OrderFact, order-fact, val-halves}
-use Rattle.sheet.specs.Fields.{Field, absent, text, whole, other, amount}
+use Rattle.sheet.specs.Fields.{Field, absent, text, figure, other, amount}
 use Rattle.registry.specs.Readers.{marked, parsed, givenOr, amountBy, amountIn, amountOf, readable, onAmount}
 use Rattle.registry.specs.Tests.{_then_, aboveZero, heldBy, unlessLess, stateThere, first, born}
 use Rattle.registry.specs.declared.error.ProfileError.{ProfileError}
@@ -169,7 +169,7 @@ read-whole t a h = go (leb 1 (length t) && leb (length t) 39 && allDigits t) (lt
 pub amount-in-whole : Whole amountIn
 unfolding amountBy parsed
 amount-in-whole absent a h = failed-never _ a h
-amount-in-whole (whole b) a h = failed-never _ a h
+amount-in-whole (figure b) a h = failed-never _ a h
 amount-in-whole other a h = failed-never _ a h
 amount-in-whole (text t) a h = go (marked t) refl (readOf t) refl h
   where

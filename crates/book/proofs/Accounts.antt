@@ -13,7 +13,7 @@ use borrow.Author.Tests.{ne-eqb, eqb-true, leb-true}
 use Rattle.amount.specs.Numbers.{limit}
 use Rattle.amount.specs.declared.Amount.{Amount}
 use Rattle.sheet.specs.Sheet.{entriesFrom, lookup, stateOf, verdictOf}
-use Rattle.sheet.specs.Fields.{Field, text, whole, field, three, Sight, sightOf, subject, unit, balance, amount, to-subject}
+use Rattle.sheet.specs.Fields.{Field, text, figure, field, three, Sight, sightOf, subject, unit, balance, amount, to-subject}
 use Rattle.sheet.specs.declared.Shape.the-variants.{Input}
 use Rattle.sheet.specs.declared.State.{State}
 use Rattle.sheet.specs.declared.State.the-variants as State
@@ -32,7 +32,7 @@ use Rattle.resource_state.specs.Apply.{balanceNext, nextOf}
 use Rattle.book.specs.Places.{placeField, placeView, closedView, putField}
 use Rattle.book.specs.Book.{nameBytes, placeRecord, placeAt, transferAt, total, isSome, wellFormed, nameOk}
 use Rattle.book.specs.Refusals.{bookAnswerOf}
-use Rattle.book.specs.Steps.{Open, Act, Begin, creditsIn, bytesIn, doing, acts, sameBytes, said, afterCheck, sheetSound, sentTo, seen, answer}
+use Rattle.book.specs.Steps.{Open, Act, Begin, creditsIn, bytesIn, adds, acts, sameBytes, said, sheetSound, sentTo, seen, answer}
 use Rattle.book.specs.declared.Name.{Name}
 use Rattle.book.specs.declared.Book.{Book}
 use Rattle.book.specs.declared.error.BookOutcome.{BookOutcome}
@@ -82,7 +82,7 @@ there s h = go (eqb (length s) 0) refl h
     go false e k = refl
 
 module _ (s u : List ℕ) (a : Amount) (short-s : length s ≤ 256) (short-u : length u ≤ 256) (sized : Sized a) where
-  pub back : Back (balanceSheet s u a) State.Balance (three 1 (text s) 2 (text u) 4 (whole a))
+  pub back : Back (balanceSheet s u a) State.Balance (three 1 (text s) 2 (text u) 4 (figure a))
   back = balance-back s short-s u short-u a sized
 
   pub fields : (n : ℕ) → field (balanceSheet s u a) n ≡ placeField s u a n
@@ -191,7 +191,7 @@ module _ (b : Book) (sound : wellFormed b ≡ true) (i : List ℕ) (sheet : shee
   -- An act that passes the book's own tests answers what check answers for the account's sheet.
   -- Premises: those of `act-is-check`, so 22, 6, 4 and 25 are not met; and the balance is of two 64-bit halves.
   pub act-is-its-sheet's-check : (p o : ℕ) → p < 16 → isSome (placeAt b p) ≡ true → Sized (placeRecord b p .balance) → acts o ≡ true
-      → afterCheck (doing o) (seen b) p (creditsIn amount i) ≡ Accepted
+      → (adds o ≡ true → total b + creditsIn amount i < limit)
       → bookAnswerOf (answer b (Act p o i)) ≡ profile.answerOf (checkOf 2 o (sheetAt b p) i)
   act-is-its-sheet's-check p o low here sized known room =
       let f = formed b sound in

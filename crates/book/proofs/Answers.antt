@@ -18,7 +18,7 @@ use Rattle.registry.proofs.Words as profile
 use Rattle.profiles.specs.Balance.{balanceRules}
 use Rattle.book.specs.Sets.{withBit, entry}
 use Rattle.book.specs.Book.{nameBytes, noPlace, noTransfer, placeRecord, placeAt, transferRecord, transferAt, total, isSome, wellFormed, openPlace, setRecord, setTransfer}
-use Rattle.book.specs.Steps.{Step, Open, Act, Begin, Finish, creditsIn, bytesIn, doing, acts, said, sameBytes, afterCheck, sheetSound, sentTo, testsOpen, testsAct, testsBegin, seen, answer, effect, next}
+use Rattle.book.specs.Steps.{Step, Open, Act, Begin, Finish, creditsIn, bytesIn, adds, doing, acts, said, sameBytes, afterCheck, sheetSound, sentTo, testsOpen, testsAct, testsBegin, seen, answer, effect, next}
 use Rattle.book.specs.Refusals.{bookRefusalOf, bookAnswerOf}
 use Rattle.book.specs.declared.Book.{Book}
 use Rattle.book.specs.declared.error.BookError.{BookError}
@@ -77,6 +77,14 @@ module _ (b : Book) where
   unfolding seen
   its-total = refl
 
+  has-room : (p o n : ℕ) → (adds o ≡ true → total b + n < limit) → afterCheck (doing o) (seen b) p n ≡ Accepted
+  unfolding doing
+  has-room p o n room = go (adds o) refl
+    where
+      go : (x : Bool) → adds o ≡ x → afterCheck (doing o) (seen b) p n ≡ Accepted
+      go true e = rw (e, its-total, lt-leb limit (total b + n) (room e))
+      go false e = rw e
+
   module _ (sound : wellFormed b ≡ true) (i : List ℕ) (sheet : sheetSound i ≡ Accepted) where
     -- 26, 27 and 25 are not met
     pub open-is-check : (p : ℕ) → p < 16 → isSome (placeAt b p) ≡ false → sameBytes (nameBytes (b .unit)) (bytesIn unit i) ≡ true
@@ -89,15 +97,15 @@ module _ (b : Book) where
         go Check.Accepted e = rw (sound, lt-leb 16 p low, there p closed, sheet, its-unit, same, le-ltb 32 (length (bytesIn subject i)) short, its-total, lt-leb limit (total b + creditsIn balance i) room, e)
         go (Check.Refused r) e = rw (sound, lt-leb 16 p low, there p closed, sheet, its-unit, same, le-ltb 32 (length (bytesIn subject i)) short, its-total, lt-leb limit (total b + creditsIn balance i) room, e)
 
-    -- 25 is not met
-    pub act-is-check : (p o : ℕ) → p < 16 → isSome (placeAt b p) ≡ true → acts o ≡ true → afterCheck (doing o) (seen b) p (creditsIn amount i) ≡ Accepted
+    -- 25 is not met: where it adds, there is room
+    pub act-is-check : (p o : ℕ) → p < 16 → isSome (placeAt b p) ≡ true → acts o ≡ true → (adds o ≡ true → total b + creditsIn amount i < limit)
         → answer b (Act p o i) ≡ said (balanceRules amountIn (seen b .place p) (field i) o)
     unfolding answer testsAct
     act-is-check p o low here known room = go (balanceRules amountIn (seen b .place p) (field i) o) refl
       where
         go : (x : Outcome) → balanceRules amountIn (seen b .place p) (field i) o ≡ x → answer b (Act p o i) ≡ said (balanceRules amountIn (seen b .place p) (field i) o)
-        go Check.Accepted e = rw (sound, lt-leb 16 p low, there p here, sheet, known, room, e)
-        go (Check.Refused r) e = rw (sound, lt-leb 16 p low, there p here, sheet, known, room, e)
+        go Check.Accepted e = rw (sound, lt-leb 16 p low, there p here, sheet, known, has-room p o (creditsIn amount i) room, e)
+        go (Check.Refused r) e = rw (sound, lt-leb 16 p low, there p here, sheet, known, has-room p o (creditsIn amount i) room, e)
 
     -- with the destination's subject as to_subject
     pub begin-is-check : (f g t : ℕ) → f < 16 → g < 16 → t < 8 → f ≢ g → isSome (transferAt b t) ≡ false → isSome (placeAt b f) ≡ true → isSome (placeAt b g) ≡ true

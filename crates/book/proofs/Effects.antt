@@ -16,7 +16,7 @@ use Rattle.amount.specs.declared.Amount.{Amount}
 use Rattle.amount.specs.declared.AmountResult.the-variants.{Ok}
 use Rattle.amount.specs.declared.AmountResult.the-variants as Read
 use Rattle.amount.proofs.Halves.{val-halves}
-use Rattle.sheet.specs.Fields.{Field, absent, text, whole, other, field, subject, unit, balance, amount, to-subject}
+use Rattle.sheet.specs.Fields.{Field, absent, text, figure, other, field, subject, unit, balance, amount, to-subject}
 use Rattle.registry.specs.Refusals.{zeroAmount}
 use Rattle.registry.specs.Readers.{marked, parsed, givenOr, amountBy, amountIn, readable, readAmount, textIn}
 use Rattle.registry.specs.Tests.{stateAbsent}
@@ -52,7 +52,7 @@ zero-whole = refl
 amount-whole : (n : ℕ) (f : Field) → readAmount (amountIn n f) ≡ wholeAmount (credits (readAmount (amountIn n f)))
 unfolding amountBy parsed readOf amountIf
 amount-whole n absent = zero-whole
-amount-whole n (whole a) = zero-whole
+amount-whole n (figure a) = zero-whole
 amount-whole n other = zero-whole
 amount-whole n (text t) = go (marked t) (leb 1 (length t) && leb (length t) 39 && allDigits t && ltb (decimal t) limit)
   where

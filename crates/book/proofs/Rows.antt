@@ -10,7 +10,7 @@ use lib.ListN.{length}
 use borrow.Author.Tests.{eqb-true, eqb-false}
 use Rattle.amount.specs.declared.Amount.{Amount}
 use Rattle.amount.proofs.Halves.{val-halves}
-use Rattle.sheet.specs.Fields.{Field, absent, text, whole, other, field, Sight, subject, amount, to-subject, authorized-by}
+use Rattle.sheet.specs.Fields.{Field, absent, text, figure, other, field, Sight, subject, amount, to-subject, authorized-by}
 use Rattle.registry.specs.Readers.{amountIn, amountOf, readAmount, textIn, bytesOf}
 use Rattle.registry.specs.Tests.{stateThere, stateAbsent, Test, first, born, in-text, among}
 use Rattle.registry.specs.declared.error.ProfileError.{ProfileError}
@@ -36,7 +36,7 @@ text-there n (text t) h = go (eqb (length t) 0) refl h
     go : (x : Bool) → eqb (length t) 0 ≡ x → cond x (Refused (Empty n)) Accepted ≡ Accepted → 0 < length t
     go true e k = refused-never (Empty n) k
     go false e k = let z = eqb-false (length t) 0 e in omega arith
-text-there n (whole a) h = refused-never _ h
+text-there n (figure a) h = refused-never _ h
 text-there n other h = refused-never _ h
 
 -- an accepted create has a subject

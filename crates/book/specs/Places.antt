@@ -4,10 +4,10 @@ use mathlib.Core.List.{List}
 use Prim.Native.Nat.{ℕ}
 use lib.Dec.{eqb}
 use Rattle.amount.specs.declared.Amount.{Amount}
-use Rattle.sheet.specs.Fields.{Field, absent, text, whole, Sight, subject, unit, balance}
+use Rattle.sheet.specs.Fields.{Field, absent, text, figure, Sight, subject, unit, balance}
 
 abbrev pub placeField : List ℕ → List ℕ → Amount → ℕ → Field
-placeField s u b n = cond (eqb n subject) (text s) (cond (eqb n unit) (text u) (cond (eqb n balance) (whole b) absent))
+placeField s u b n = cond (eqb n subject) (text s) (cond (eqb n unit) (text u) (cond (eqb n balance) (figure b) absent))
 
 -- an open place: its subject, the book's unit, its balance
 abbrev pub placeView : List ℕ → List ℕ → Amount → Sight

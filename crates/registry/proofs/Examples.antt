@@ -11,7 +11,7 @@ use Rattle.amount.specs.Amounts.{amountIf, readOf, compareOf}
 use Rattle.amount.specs.declared.Amount.{Amount}
 use Rattle.sheet.specs.Walk.{every, sum, prior}
 use Rattle.sheet.specs.Sheet.{entryAt, isField, isForm, soundAs}
-use Rattle.sheet.specs.Fields.{Field, absent, text, whole, other, Sight, quantity, amount}
+use Rattle.sheet.specs.Fields.{Field, absent, text, figure, other, Sight, quantity, amount}
 use Rattle.registry.specs.Readers.{marked, parsed, amountBy, amountIn, amountOf, textIn}
 use Rattle.registry.specs.Tests.{stateAbsent, aboveZero, heldBy, upTo, first, drawsOn, creates}
 use Rattle.registry.specs.Call.{operationOf, called}
@@ -41,7 +41,7 @@ abbrev bare : Sight
 bare = record { there = true; at = λ n. absent }
 
 abbrev holding : Sight
-holding = record { there = true; at = λ n. whole (whole-of 5) }
+holding = record { there = true; at = λ n. figure (whole-of 5) }
 
 abbrev nothing : ℕ → Field
 nothing n = absent

@@ -15,7 +15,7 @@ use Rattle.amount.specs.Decimal.{isDigit, allDigits}
 use Rattle.amount.specs.declared.AmountResult.the-variants as Read
 use Rattle.amount.proofs.Reading.{read-not-digits}
 use Rattle.sheet.specs.Amounts.{amountAt}
-use Rattle.sheet.specs.Fields.{Field, absent, text, whole, other, fieldOfKind}
+use Rattle.sheet.specs.Fields.{Field, absent, text, figure, other, fieldOfKind}
 use Rattle.registry.specs.Readers.{marked, isMark, textIn, textOf, bytesOf, givenOr, parsed, amountBy, amountIn, amountOf}
 use Rattle.registry.specs.Helpers.{readIn, faultIn}
 use Rattle.registry.specs.declared.error.ProfileError.the-variants.{NotText, NotWhole, FloatForbidden, NoField}
@@ -23,10 +23,10 @@ use Rattle.registry.specs.declared.error.Outcome.the-variants.{Refused}
 use Rattle.registry.specs.declared.error.Reading.the-variants.{Given, Failed}
 
 -- what is not a text is an amount or a value that is no string, and a reader that answers both alike answers so
-pub not-text : {A : Type 0} (f : Field → A) (x : A) (kind : ℕ) (body : List ℕ) → x ≡ f (whole (amountAt body 0)) → x ≡ f other → kind ≢ 1 → x ≡ f (fieldOfKind kind body)
+pub not-text : {A : Type 0} (f : Field → A) (x : A) (kind : ℕ) (body : List ℕ) → x ≡ f (figure (amountAt body 0)) → x ≡ f other → kind ≢ 1 → x ≡ f (fieldOfKind kind body)
 not-text f x kind body w o h = rw (ne-eqb kind 1 h) (go (eqb kind 3))
   where
-    go : (b : Bool) → x ≡ f (cond b (whole (amountAt body 0)) other)
+    go : (b : Bool) → x ≡ f (cond b (figure (amountAt body 0)) other)
     go true = w
     go false = o
 
@@ -91,7 +91,7 @@ amount-in-is n (text t) = go (marked t) refl
     go : (m : Bool) → marked t ≡ m → cond m (Failed (FloatForbidden n)) (givenOr (NotWhole n) (readOf t)) ≡ givenOr (cond m (FloatForbidden n) (NotWhole n)) (readOf t)
     go true e = rw (← read-not-digits t (marked-no-digits t e))
     go false e = refl
-amount-in-is n (whole a) = refl
+amount-in-is n (figure a) = refl
 amount-in-is n other = refl
 
 -- no mark of a fraction among the first i bytes

@@ -12,7 +12,7 @@ use Rattle.amount.specs.declared.uint128.Uint128.{Uint128}
 use Rattle.amount.specs.declared.AmountResult.{AmountResult}
 use Rattle.amount.specs.declared.AmountResult.the-variants as Read
 use Rattle.sheet.specs.Sheet.{verdictOf, table, lookup}
-use Rattle.sheet.specs.Fields.{Field, absent, text, whole, other, field, fieldOf, fieldOfKind}
+use Rattle.sheet.specs.Fields.{Field, absent, text, figure, other, field, fieldOf, fieldOfKind}
 use Rattle.sheet.specs.declared.Found.{Found}
 use Rattle.sheet.specs.declared.Verdict.{Verdict}
 use Rattle.sheet.specs.declared.Verdict.the-variants as Verdict
@@ -88,7 +88,7 @@ fault-lacks n (text t) = go (marked t)
     go : (m : Bool) → Lacks (cond m (FloatForbidden n) (NotWhole n)) (refusalOf (cond m (FloatForbidden n) (NotWhole n)) .number) n
     go true = record { plain = refl; low = omega arith }
     go false = record { plain = refl; low = omega arith }
-fault-lacks n (whole a) = record { plain = refl; low = omega arith }
+fault-lacks n (figure a) = record { plain = refl; low = omega arith }
 fault-lacks n other = record { plain = refl; low = omega arith }
 
 -- what is not readable: the code's record is the definition's
@@ -168,7 +168,7 @@ text-given n (text t) h = go (eqb (length t) 0) h
     go : (b : Bool) → _≡_ {A = ℕ} (cond b 9 0) 0 → cond b (Refused (Empty n)) Accepted ≡ Accepted
     go true h = absurd (omega arith)
     go false h = refl
-text-given n (whole a) h = absurd (omega arith)
+text-given n (figure a) h = absurd (omega arith)
 text-given n other h = absurd (omega arith)
 
 -- else why there is none
@@ -185,5 +185,5 @@ text-lacks n (text t) h = go (eqb (length t) 0) h
     go : (b : Bool) → _≢_ {A = ℕ} (cond b 9 0) 0 → TextLacks (cond b (Refused (Empty n)) Accepted) (cond b 9 0) n
     go true h = record { error = Empty n; refused = refl; lacks = record { plain = refl; low = omega arith } }
     go false h = absurd (h refl)
-text-lacks n (whole a) h = record { error = NotText n; refused = refl; lacks = record { plain = refl; low = omega arith } }
+text-lacks n (figure a) h = record { error = NotText n; refused = refl; lacks = record { plain = refl; low = omega arith } }
 text-lacks n other h = record { error = NotText n; refused = refl; lacks = record { plain = refl; low = omega arith } }

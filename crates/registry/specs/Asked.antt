@@ -5,7 +5,7 @@ use Prim.Native.Nat.{ℕ}
 use lib.Dec.{eqb}
 use lib.ListN.{length}
 use Rattle.sheet.specs.Sheet.{verdictOf}
-use Rattle.sheet.specs.Fields.{Field, absent, text, whole, other, field}
+use Rattle.sheet.specs.Fields.{Field, absent, text, figure, other, field}
 use Rattle.sheet.specs.declared.Shape.the-variants.{Input}
 use Rattle.sheet.specs.declared.Verdict.{Verdict}
 use Rattle.sheet.specs.declared.Verdict.the-variants as Verdict
@@ -33,5 +33,5 @@ askedIn name i = askedBy (isSound (verdictOf Input i)) (amountIn name (field i n
 unfoldable pub textNumber : Field → ℕ
 textNumber absent = 7
 textNumber (text t) = cond (eqb (length t) 0) 9 0
-textNumber (whole a) = 8
+textNumber (figure a) = 8
 textNumber other = 8

@@ -4,7 +4,7 @@ use Prim.Native.Nat.{ℕ}
 use Rattle.amount.specs.Amounts.{readOf}
 use Rattle.amount.specs.declared.AmountResult.{AmountResult}
 use Rattle.amount.specs.declared.AmountResult.the-variants as Read
-use Rattle.sheet.specs.Fields.{Field, absent, text, whole, other}
+use Rattle.sheet.specs.Fields.{Field, absent, text, figure, other}
 use Rattle.registry.specs.declared.error.ProfileError.{ProfileError}
 use Rattle.registry.specs.declared.error.ProfileError.the-variants.{Missing, NotWhole, FloatForbidden}
 use Rattle.registry.specs.Readers.{marked, readable, onAmount}
@@ -17,13 +17,13 @@ use Rattle.registry.specs.Tests.{_then_, aboveZero, heldBy}
 unfoldable pub readIn : Field → AmountResult
 readIn absent = Read.NotWhole
 readIn (text t) = readOf t
-readIn (whole a) = Read.NotWhole
+readIn (figure a) = Read.NotWhole
 readIn other = Read.NotWhole
 
 unfoldable pub faultIn : ℕ → Field → ProfileError
 faultIn n absent = Missing n
 faultIn n (text t) = cond (marked t) (FloatForbidden n) (NotWhole n)
-faultIn n (whole a) = NotWhole n
+faultIn n (figure a) = NotWhole n
 faultIn n other = NotWhole n
 
 -- what `drawsOn` tests, of two readings: of what is held and of what is asked

@@ -8,7 +8,7 @@ use Rattle.amount.specs.Amounts.{readOf}
 use Rattle.amount.specs.declared.Amount.{Amount}
 use Rattle.amount.specs.declared.AmountResult.{AmountResult}
 use Rattle.amount.specs.declared.AmountResult.the-variants as Read
-use Rattle.sheet.specs.Fields.{Field, absent, text, whole, other}
+use Rattle.sheet.specs.Fields.{Field, absent, text, figure, other}
 use Rattle.registry.specs.Refusals.{zeroAmount}
 use Rattle.registry.specs.declared.error.ProfileError.{ProfileError}
 use Rattle.registry.specs.declared.error.ProfileError.the-variants.{Missing, NotText, Empty, NotWhole, FloatForbidden, NoField, Blank}
@@ -21,21 +21,21 @@ use Rattle.registry.specs.declared.error.Reading.the-variants.{Given, Fa
 unfoldable pub textIn : ℕ → Field → Outcome
 textIn n absent = Refused (Missing n)
 textIn n (text t) = cond (eqb (length t) 0) (Refused (Empty n)) Accepted
-textIn n (whole a) = Refused (NotText n)
+textIn n (figure a) = Refused (NotText n)
 textIn n other = Refused (NotText n)
 
 -- a state's text: 12 no field, 13 blank
 unfoldable pub textOf : ℕ → Field → Outcome
 textOf n absent = Refused (NoField n)
 textOf n (text t) = cond (eqb (length t) 0) (Refused (Blank n)) Accepted
-textOf n (whole a) = Refused (NoField n)
+textOf n (figure a) = Refused (NoField n)
 textOf n other = Refused (NoField n)
 
 -- the bytes of a text; none where there is no text
 unfoldable pub bytesOf : Field → List ℕ
 bytesOf absent = []
 bytesOf (text t) = t
-bytesOf (whole a) = []
+bytesOf (figure a) = []
 bytesOf other = []
 
 -- `.`, `e` or `E`
@@ -61,7 +61,7 @@ parsed n t = cond (marked t) (Failed (FloatForbidden n)) (givenOr (NotWhole n) (
 unfoldable pub amountBy : (ℕ → List ℕ → Reading) → ℕ → Field → Reading
 amountBy parse n absent = Failed (Missing n)
 amountBy parse n (text t) = parse n t
-amountBy parse n (whole a) = Failed (NotWhole n)
+amountBy parse n (figure a) = Failed (NotWhole n)
 amountBy parse n other = Failed (NotWhole n)
 
 abbrev pub amountIn : ℕ → Field → Reading
@@ -71,7 +71,7 @@ amountIn = amountBy parsed
 unfoldable pub amountOf : ℕ → Field → Reading
 amountOf n absent = Failed (NoField n)
 amountOf n (text t) = Failed (NoField n)
-amountOf n (whole a) = Given a
+amountOf n (figure a) = Given a
 amountOf n other = Failed (NoField n)
 
 -- whether an amount could be read

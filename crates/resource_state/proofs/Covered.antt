@@ -5,7 +5,7 @@ use mathlib.Core.List.{List, [], _∷_, _++_, map}
 use Prim.Native.Nat.{ℕ}
 use lib.Dec.{eqb}
 use Rattle.registry.specs.Tests.{Test, unborn, born, in-text, in-amount, st-text, st-amount, positive, available, up-to-maximum, can-add, can-subtract}
-use Rattle.resource_state.specs.Next.{Gives, zero, given, kept, sum, difference, lesser, Makes, stack-of, balance-of, meter-of, ApplyRow}
+use Rattle.resource_state.specs.Next.{Gives, zero, given, kept, sum-of, difference-of, lesser, Makes, stack-of, balance-of, meter-of, ApplyRow}
 use Rattle.resource_state.specs.Apply.{stackApplies, balanceApplies, meterApplies}
 use Rattle.resource_state.specs.declared.Part.{Part}
 use Rattle.resource_state.specs.declared.Part.the-variants as Part
@@ -41,8 +41,8 @@ abbrev pub readsAmount : List Test → Gives → Bool
 readsAmount ts zero = true
 readsAmount ts (given a) = tests ts (in-amount a)
 readsAmount ts (kept h) = tests ts (st-amount h)
-readsAmount ts (sum h a) = tests ts (st-amount h) && tests ts (in-amount a) && tests ts (can-add h a)
-readsAmount ts (difference h a) = tests ts (st-amount h) && tests ts (in-amount a) && tests ts (can-subtract h a)
+readsAmount ts (sum-of h a) = tests ts (st-amount h) && tests ts (in-amount a) && tests ts (can-add h a)
+readsAmount ts (difference-of h a) = tests ts (st-amount h) && tests ts (in-amount a) && tests ts (can-subtract h a)
 readsAmount ts (lesser a h) = tests ts (in-amount a) && tests ts (st-amount h)
 
 abbrev pub reads : List Test → Makes → Bool

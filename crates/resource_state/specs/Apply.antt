@@ -8,7 +8,7 @@ use Rattle.registry.specs.Readers.{amountIn}
 use Rattle.registry.specs.Tests.{Test, born, in-text, in-amount, st-text, st-amount, can-add, can-subtract}
 use Rattle.registry.specs.Call.{called}
 use Rattle.registry.specs.declared.error.Reading.{Reading}
-use Rattle.resource_state.specs.Next.{Gives, zero, given, kept, sum, difference, lesser, Makes, stack-of, balance-of, meter-of, ApplyRow, applyRow, unlessRefused, applied}
+use Rattle.resource_state.specs.Next.{Gives, zero, given, kept, sum-of, difference-of, lesser, Makes, stack-of, balance-of, meter-of, ApplyRow, applyRow, unlessRefused, applied}
 use Rattle.resource_state.specs.declared.Part.the-variants.{State, Input}
 use Rattle.resource_state.specs.declared.Next.{Next}
 
@@ -33,9 +33,9 @@ balanceWith = balance-of (State subject) (State unit)
 abbrev pub stackApplies : List ApplyRow
 stackApplies =
     applyRow (1 ∷ []) (in-text subject ∷ in-text unit ∷ in-amount quantity ∷ []) (stack-of (Input subject) (Input unit) (given quantity))
-    ∷ applyRow (2 ∷ 7 ∷ []) (holding ++ raising quantity quantity) (stackWith (sum quantity quantity))
-    ∷ applyRow (3 ∷ 4 ∷ 6 ∷ []) (holding ++ lowering quantity quantity) (stackWith (difference quantity quantity))
-    ∷ applyRow (5 ∷ []) (born ∷ in-text to-subject ∷ st-text subject ∷ st-text unit ∷ lowering quantity quantity) (stackWith (difference quantity quantity))
+    ∷ applyRow (2 ∷ 7 ∷ []) (holding ++ raising quantity quantity) (stackWith (sum-of quantity quantity))
+    ∷ applyRow (3 ∷ 4 ∷ 6 ∷ []) (holding ++ lowering quantity quantity) (stackWith (difference-of quantity quantity))
+    ∷ applyRow (5 ∷ []) (born ∷ in-text to-subject ∷ st-text subject ∷ st-text unit ∷ lowering quantity quantity) (stackWith (difference-of quantity quantity))
     ∷ applyRow (8 ∷ []) holding (stackWith zero)
     ∷ applyRow (9 ∷ []) (holding ++ (in-amount quantity ∷ [])) (stackWith (given quantity))
     ∷ []
@@ -43,11 +43,11 @@ stackApplies =
 abbrev pub balanceApplies : List ApplyRow
 balanceApplies =
     applyRow (11 ∷ []) (in-text subject ∷ in-text unit ∷ in-amount balance ∷ []) (balance-of (Input subject) (Input unit) (given balance))
-    ∷ applyRow (12 ∷ 13 ∷ 17 ∷ []) (holding ++ raising balance amount) (balanceWith (sum balance amount))
-    ∷ applyRow (14 ∷ 16 ∷ 18 ∷ 19 ∷ []) (holding ++ lowering balance amount) (balanceWith (difference balance amount))
-    ∷ applyRow (15 ∷ []) (born ∷ in-text to-subject ∷ st-text subject ∷ st-text unit ∷ lowering balance amount) (balanceWith (difference balance amount))
+    ∷ applyRow (12 ∷ 13 ∷ 17 ∷ []) (holding ++ raising balance amount) (balanceWith (sum-of balance amount))
+    ∷ applyRow (14 ∷ 16 ∷ 18 ∷ 19 ∷ []) (holding ++ lowering balance amount) (balanceWith (difference-of balance amount))
+    ∷ applyRow (15 ∷ []) (born ∷ in-text to-subject ∷ st-text subject ∷ st-text unit ∷ lowering balance amount) (balanceWith (difference-of balance amount))
     ∷ applyRow (20 ∷ []) (born ∷ st-text subject ∷ in-text to-unit ∷ lowering balance amount)
-    (balance-of (State subject) (Input to-unit) (difference balance amount))
+    (balance-of (State subject) (Input to-unit) (difference-of balance amount))
     ∷ []
 
 -- born, st subject, st maximum
@@ -58,7 +58,7 @@ abbrev pub meterApplies : List ApplyRow
 meterApplies =
     applyRow (21 ∷ []) (in-text subject ∷ in-amount remaining ∷ in-amount maximum ∷ []) (meter-of (Input subject) (given remaining) (given maximum))
     ∷ applyRow (22 ∷ []) (metering ++ lowering remaining amount)
-    (meter-of (State subject) (difference remaining amount) (kept maximum))
+    (meter-of (State subject) (difference-of remaining amount) (kept maximum))
     ∷ applyRow (23 ∷ []) metering (meter-of (State subject) (kept maximum) (kept maximum))
     ∷ applyRow (24 ∷ []) (born ∷ st-text subject ∷ st-amount remaining ∷ in-amount maximum ∷ []) (meter-of (State subject) (lesser maximum remaining) (given maximum))
     ∷ applyRow (25 ∷ 26 ∷ []) metering (meter-of (State subject) zero (kept maximum))

@@ -26,8 +26,8 @@ pub data Gives : Type 0 where
   zero : Gives
   given : (asked : ℕ) → Gives
   kept : (held : ℕ) → Gives
-  sum : (held asked : ℕ) → Gives
-  difference : (held asked : ℕ) → Gives
+  sum-of : (held asked : ℕ) → Gives
+  difference-of : (held asked : ℕ) → Gives
   lesser : (asked held : ℕ) → Gives
 
 -- THE NEXT STATE, of the profile's kind
@@ -71,8 +71,8 @@ module _ (read : ℕ → Field → Reading) (st : Sight) (inp : ℕ → Field) w
   amountFor zero = zeroAmount
   amountFor (given a) = asked a
   amountFor (kept h) = held h
-  amountFor (sum h a) = readAmount (plus (held h) (asked a))
-  amountFor (difference h a) = readAmount (less (held h) (asked a))
+  amountFor (sum-of h a) = readAmount (plus (held h) (asked a))
+  amountFor (difference-of h a) = readAmount (less (held h) (asked a))
   amountFor (lesser a h) = minOf (asked a) (held h)
 
   abbrev pub made : Makes → ResourceState

@@ -3,7 +3,7 @@ ghost use mathlib.Core.Path.{_≡_};
 ghost use mathlib.Core.List.{[], _∷_, _++_};
 ghost use Rattle.sheet.specs.Fields.{subject, unit, to-subject, to-unit, balance, amount};
 ghost use Rattle.registry.specs.Tests.{firstOf, born, in-text, in-amount, st-text};
-ghost use Rattle.resource_state.specs.Next.{zero, given, sum, difference};
+ghost use Rattle.resource_state.specs.Next.{zero, given, sum-of, difference-of};
 ghost use Rattle.resource_state.specs.Helpers.{amountOver};
 ghost use Rattle.resource_state.specs.Apply.{holding, raising, lowering};
 use amount::Amount;
@@ -25,7 +25,7 @@ use sheet::UNIT;
 
 // What is held less what is asked.
 pub(crate) fn lowered(state: &[u8], input: &[u8], held: u8, asked: u8) -> Reading
-    ensures { λ r. ⌜ r ≡ amountOver (now (state .entry)) (now (input .entry)) (lowering held asked) (difference held asked) ⌝ }
+    ensures { λ r. ⌜ r ≡ amountOver (now (state .entry)) (now (input .entry)) (lowering held asked) (difference-of held asked) ⌝ }
 {
     let current = match state_amount(state, held) {
         Reading::Given(a) => a,
@@ -52,7 +52,7 @@ pub(crate) fn created(input: &[u8], name: u8) -> Reading
 }
 
 pub(crate) fn credited(state: &[u8], input: &[u8], held: u8, asked: u8) -> Reading
-    ensures { λ r. ⌜ r ≡ amountOver (now (state .entry)) (now (input .entry)) (holding ++ raising held asked) (sum held asked) ⌝ }
+    ensures { λ r. ⌜ r ≡ amountOver (now (state .entry)) (now (input .entry)) (holding ++ raising held asked) (sum-of held asked) ⌝ }
 {
     if let Outcome::Refused(e) = require_texts(state) {
         return Reading::Failed(e);
@@ -61,7 +61,7 @@ pub(crate) fn credited(state: &[u8], input: &[u8], held: u8, asked: u8) -> Readi
 }
 
 pub(crate) fn debited(state: &[u8], input: &[u8], held: u8, asked: u8) -> Reading
-    ensures { λ r. ⌜ r ≡ amountOver (now (state .entry)) (now (input .entry)) (holding ++ lowering held asked) (difference held asked) ⌝ }
+    ensures { λ r. ⌜ r ≡ amountOver (now (state .entry)) (now (input .entry)) (holding ++ lowering held asked) (difference-of held asked) ⌝ }
 {
     if let Outcome::Refused(e) = require_texts(state) {
         return Reading::Failed(e);
@@ -71,7 +71,7 @@ pub(crate) fn debited(state: &[u8], input: &[u8], held: u8, asked: u8) -> Readin
 
 // The source of a transfer: in to_subject directly after born.
 pub(crate) fn transferred(state: &[u8], input: &[u8], held: u8, asked: u8) -> Reading
-    ensures { λ r. ⌜ r ≡ amountOver (now (state .entry)) (now (input .entry)) (born ∷ in-text to-subject ∷ st-text subject ∷ st-text unit ∷ lowering held asked) (difference held asked) ⌝ }
+    ensures { λ r. ⌜ r ≡ amountOver (now (state .entry)) (now (input .entry)) (born ∷ in-text to-subject ∷ st-text subject ∷ st-text unit ∷ lowering held asked) (difference-of held asked) ⌝ }
 {
     if let Outcome::Refused(e) = require_current(state) {
         return Reading::Failed(e);
@@ -90,7 +90,7 @@ pub(crate) fn transferred(state: &[u8], input: &[u8], held: u8, asked: u8) -> Re
 
 // Convert reads no unit of the state.
 pub(crate) fn converted(state: &[u8], input: &[u8]) -> Reading
-    ensures { λ r. ⌜ r ≡ amountOver (now (state .entry)) (now (input .entry)) (born ∷ st-text subject ∷ in-text to-unit ∷ lowering balance amount) (difference balance amount) ⌝ }
+    ensures { λ r. ⌜ r ≡ amountOver (now (state .entry)) (now (input .entry)) (born ∷ st-text subject ∷ in-text to-unit ∷ lowering balance amount) (difference-of balance amount) ⌝ }
 {
     if let Outcome::Refused(e) = require_current(state) {
         return Reading::Failed(e);
@@ -139,7 +139,7 @@ fn require_texts(state: &[u8]) -> Outcome
 
 // What is held and what is asked more.
 fn raised(state: &[u8], input: &[u8], held: u8, asked: u8) -> Reading
-    ensures { λ r. ⌜ r ≡ amountOver (now (state .entry)) (now (input .entry)) (raising held asked) (sum held asked) ⌝ }
+    ensures { λ r. ⌜ r ≡ amountOver (now (state .entry)) (now (input .entry)) (raising held asked) (sum-of held asked) ⌝ }
 {
     let current = match state_amount(state, held) {
         Reading::Given(a) => a,

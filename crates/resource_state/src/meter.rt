@@ -4,7 +4,7 @@ ghost use mathlib.Core.List.{[], _∷_, _++_};
 ghost use Rattle.sheet.specs.Fields.{field, sightOf, subject, remaining, maximum, amount};
 ghost use Rattle.registry.specs.Readers.{amountIn};
 ghost use Rattle.registry.specs.Tests.{born, in-text, in-amount, st-text, st-amount};
-ghost use Rattle.resource_state.specs.Next.{meterOf, zero, given, kept, difference, lesser, meter-of};
+ghost use Rattle.resource_state.specs.Next.{meterOf, zero, given, kept, difference-of, lesser, meter-of};
 ghost use Rattle.resource_state.specs.Helpers.{amountOver, nextOver};
 ghost use Rattle.resource_state.specs.Apply.{metering, lowering, meterNext};
 use super::MeterState;
@@ -83,7 +83,7 @@ fn current_maximum(state: &[u8]) -> Reading
 }
 
 fn consume(state: &[u8], input: &[u8]) -> Next
-    ensures { λ r. ⌜ r ≡ nextOver (now (state .entry)) (now (input .entry)) (metering ++ lowering remaining amount) (meter-of (Part.State subject) (difference remaining amount) (kept maximum)) ⌝ }
+    ensures { λ r. ⌜ r ≡ nextOver (now (state .entry)) (now (input .entry)) (metering ++ lowering remaining amount) (meter-of (Part.State subject) (difference-of remaining amount) (kept maximum)) ⌝ }
 {
     let maximum = match current_maximum(state) {
         Reading::Given(a) => a,

@@ -8,7 +8,7 @@ use Rattle.sheet.specs.declared.State.the-variants as State
 use Rattle.sheet.specs.Walk.{every, sum, prior}
 use Rattle.sheet.specs.Sheet.{entryAt, isField, isForm, soundAs, verdictOf, stateOf, entriesFrom, lookup}
 use Rattle.sheet.specs.Amounts.{amountAt}
-use Rattle.sheet.specs.Fields.{field, absent, text, whole, other}
+use Rattle.sheet.specs.Fields.{field, absent, text, figure, other}
 
 -- document 01's first open: subject `N1`, unit `rd`, balance `5`, all texts
 abbrev opened : List ℕ
@@ -51,6 +51,6 @@ values : map (field placed) (7 ∷ 1 ∷ []) ≡ other ∷ absent ∷ []
 unfolding field lookup entriesFrom entryAt
 values = refl
 
-amounts : field held 4 ≡ whole (record { mantissa = record { hi = 0; lo = 12 }; scale = 1 })
+amounts : field held 4 ≡ figure (record { mantissa = record { hi = 0; lo = 12 }; scale = 1 })
 unfolding field lookup entriesFrom entryAt amountAt
 amounts = refl

@@ -18,7 +18,7 @@ use Rattle.sheet.specs.declared.Found.{Found}
 use Rattle.sheet.specs.declared.Found.the-variants.{At}
 use Rattle.sheet.specs.Sheet.{entryAt, lengthFits, soundAs, stateOf, entriesFrom, table, lookup, partOf, stackForm, balanceForm, meterForm}
 use Rattle.sheet.specs.Amounts.{amountAt}
-use Rattle.sheet.specs.Fields.{text, whole, fieldOfKind, fieldOf, field, three}
+use Rattle.sheet.specs.Fields.{text, figure, fieldOfKind, fieldOf, field, three}
 use Rattle.sheet.proofs.Forms.{IsField, Formed, formed-so, third-is, no-stack, no-balance}
 use Rattle.sheet.proofs.Holding.{form-whole, whole-so, inside}
 
@@ -37,7 +37,7 @@ pub record Three (s : List ℕ) (f : Form) : Type 0 where
   pub x : List ℕ
   pub y : List ℕ
   pub z : List ℕ
-  pub fields : (name : ℕ) → field s name ≡ three 1 (text x) (f .second) (fieldOfKind (f .kind) y) (f .third) (whole (amountAt z 0)) name
+  pub fields : (name : ℕ) → field s name ≡ three 1 (text x) (f .second) (fieldOfKind (f .kind) y) (f .third) (figure (amountAt z 0)) name
   pub x-fits : length x ≤ 256
   pub y-fits : lengthFits (f .kind) (length y) ≡ true
   pub z-fits : length z ≡ 17

@@ -41,15 +41,15 @@ to-unit = 9
 abbrev pub authorized-by : ℕ
 authorized-by = 10
 
--- what a name has: nothing, a text (kind 1), an amount (kind 3), or a value that is no string (kind 2)
+-- what a name has: nothing, a text (kind 1), a figure, which is an amount (kind 3), or a value that is no string (kind 2)
 pub data Field : Type 0 where
   absent : Field
   text : (bytes : List ℕ) → Field
-  whole : (a : Amount) → Field
+  figure : (a : Amount) → Field
   other : Field
 
 abbrev pub fieldOfKind : ℕ → List ℕ → Field
-fieldOfKind kind body = cond (eqb kind 1) (text body) (cond (eqb kind 3) (whole (amountAt body 0)) other)
+fieldOfKind kind body = cond (eqb kind 1) (text body) (cond (eqb kind 3) (figure (amountAt body 0)) other)
 
 abbrev pub fieldOf : List ℕ → Found → Field
 fieldOf s (At e) = fieldOfKind (e .kind) (bodyOf s (At e))

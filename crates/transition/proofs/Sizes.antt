@@ -10,7 +10,7 @@ use lib.Seq.{getD-drop}
 use Rattle.amount.specs.declared.Amount.{Amount}
 use Rattle.sheet.specs.Sheet.{u16At, lookup, table, partOf}
 use Rattle.sheet.specs.Amounts.{u32At, u64At, amountAt}
-use Rattle.sheet.specs.Fields.{text, whole, other, fieldOf, field}
+use Rattle.sheet.specs.Fields.{text, figure, other, fieldOf, field}
 use Rattle.sheet.specs.declared.Found.{Found}
 use Rattle.sheet.specs.declared.Found.the-variants.{At, Nothing}
 use Rattle.writer.proofs.RoundTrip.{Sized}
@@ -38,17 +38,17 @@ read-sized : (s : List ℕ) (i : ℕ) → Bytes s → Sized (amountAt s i)
 unfolding amountAt
 read-sized s i h = record { lo = u64-fits s i h; hi = u64-fits s (i + 8) h }
 
-kind-sized : (t u : Bool) (body : List ℕ) (a : Amount) → Bytes body → cond t (text body) (cond u (whole (amountAt body 0)) other) ≡ whole a → Sized a
+kind-sized : (t u : Bool) (body : List ℕ) (a : Amount) → Bytes body → cond t (text body) (cond u (figure (amountAt body 0)) other) ≡ figure a → Sized a
 kind-sized true u body a h e = let z : _≡_ {A = ℕ} 0 1 = cc in absurd (omega arith)
 kind-sized false true body a h e =
     let q : amountAt body 0 ≡ a = cc in
     rw (← q) (read-sized body 0 h)
 kind-sized false false body a h e = let z : _≡_ {A = ℕ} 0 1 = cc in absurd (omega arith)
 
-found-sized : (s : List ℕ) (f : Found) (a : Amount) → Bytes s → fieldOf s f ≡ whole a → Sized a
+found-sized : (s : List ℕ) (f : Found) (a : Amount) → Bytes s → fieldOf s f ≡ figure a → Sized a
 found-sized s (At e) a h q = kind-sized (eqb (e .kind) 1) (eqb (e .kind) 3) (partOf s e) a (take-bytes (e .len) (drop (e .offset) s) (drop-bytes (e .offset) s h)) q
 found-sized s Nothing a h q = let z : _≡_ {A = ℕ} 0 1 = cc in absurd (omega arith)
 
-pub field-sized : (s : List ℕ) → Bytes s → (name : ℕ) (a : Amount) → field s name ≡ whole a → Sized a
+pub field-sized : (s : List ℕ) → Bytes s → (name : ℕ) (a : Amount) → field s name ≡ figure a → Sized a
 unfolding field
 field-sized s h name a q = found-sized s (lookup name (table s)) a h q

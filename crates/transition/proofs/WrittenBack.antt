@@ -16,7 +16,7 @@ use Rattle.amount.specs.declared.uint128.Ordering.{Ordering}
 use Rattle.amount.specs.declared.uint128.Ordering.the-variants.{Less, Equal, Greater}
 use Rattle.amount.specs.declared.AmountResult.{AmountResult}
 use Rattle.amount.specs.declared.AmountResult.the-variants as Read
-use Rattle.sheet.specs.Fields.{Field, absent, text, whole, other, sightOf, field, three, subject, unit, quantity, balance, amount, remaining, maximum, to-subject}
+use Rattle.sheet.specs.Fields.{Field, absent, text, figure, other, sightOf, field, three, subject, unit, quantity, balance, amount, remaining, maximum, to-subject}
 use Rattle.sheet.specs.Sheet.{stateOf, verdictOf}
 use Rattle.sheet.specs.declared.Shape.the-variants.{Input}
 use Rattle.sheet.specs.declared.State.{State}
@@ -32,7 +32,7 @@ use Rattle.registry.specs.declared.error.Outcome.the-variants.{Accepted, Refuse
 use Rattle.registry.specs.declared.error.Reading.{Reading}
 use Rattle.registry.specs.declared.error.Reading.the-variants.{Given, Failed}
 use Rattle.writer.proofs.RoundTrip.{Sized, Back, stack-back, balance-back, meter-back}
-use Rattle.resource_state.specs.Next.{Gives, zero, given, kept, sum, difference, lesser, Makes, stack-of, balance-of, meter-of, ApplyRow, unlessRefused, amountFor, made, applied, textFrom, sheetOf, withAmount}
+use Rattle.resource_state.specs.Next.{Gives, zero, given, kept, sum-of, difference-of, lesser, Makes, stack-of, balance-of, meter-of, ApplyRow, unlessRefused, amountFor, made, applied, textFrom, sheetOf, withAmount}
 use Rattle.resource_state.specs.Apply.{stackApplies, balanceApplies, meterApplies, stackNext, balanceNext, meterNext, nextBy, nextOf}
 use Rattle.resource_state.specs.declared.Part.{Part}
 use Rattle.resource_state.specs.declared.Part.the-variants as Part
@@ -71,7 +71,7 @@ if-sized e o z t m scale = go t (ltb m limit) refl
 asked-sized : (n : ℕ) (f : Field) → Sized (readAmount (amountIn n f))
 unfolding amountBy parsed readOf
 asked-sized n absent = zero-sized
-asked-sized n (whole a) = zero-sized
+asked-sized n (figure a) = zero-sized
 asked-sized n other = zero-sized
 asked-sized n (text t) = go (marked t)
   where
@@ -79,11 +79,11 @@ asked-sized n (text t) = go (marked t)
     go true = zero-sized
     go false = if-sized (NotWhole n) Read.NotWhole refl (leb 1 (length t) && leb (length t) 39 && allDigits t) (decimal t) 0
 
-held-sized : (n : ℕ) (f : Field) → ((a : Amount) → f ≡ whole a → Sized a) → Sized (readAmount (amountOf n f))
+held-sized : (n : ℕ) (f : Field) → ((a : Amount) → f ≡ figure a → Sized a) → Sized (readAmount (amountOf n f))
 unfolding amountOf
 held-sized n absent h = zero-sized
 held-sized n (text t) h = zero-sized
-held-sized n (whole a) h = h a refl
+held-sized n (figure a) h = h a refl
 held-sized n other h = zero-sized
 
 lesser-sized : (o : Ordering) (a b : Amount) → Sized a → Sized b → Sized (lesserBy o a b)
@@ -97,8 +97,8 @@ module _ (s i : List ℕ) (bytes : Bytes s) where
   amount-sized zero = zero-sized
   amount-sized (given n) = asked-sized n (field i n)
   amount-sized (kept n) = held-sized n (field s n) (field-sized s bytes n)
-  amount-sized (sum h a) = if-sized _ Read.Overflow refl _ _ _
-  amount-sized (difference h a) = if-sized _ Read.Underflow refl _ _ _
+  amount-sized (sum-of h a) = if-sized _ Read.Overflow refl _ _ _
+  amount-sized (difference-of h a) = if-sized _ Read.Underflow refl _ _ _
   amount-sized (lesser a h) =
       lesser-sized (compareOf (readAmount (amountIn a (field i a))) (readAmount (amountOf h (field s h)))) _ _ (asked-sized a (field i a)) (held-sized h (field s h) (field-sized s bytes h))
 
@@ -106,9 +106,9 @@ module _ (s i : List ℕ) (bytes : Bytes s) where
 
 -- what a next state holds, by its fields' names
 abbrev pub viewOf : List ℕ → List ℕ → ResourceState → ℕ → Field
-viewOf s i (ConsumableStack n) = three 1 (text (textFrom (field s) (field i) (n .subject))) 2 (text (textFrom (field s) (field i) (n .unit))) 3 (whole (n .quantity))
-viewOf s i (FungibleBalance n) = three 1 (text (textFrom (field s) (field i) (n .subject))) 2 (text (textFrom (field s) (field i) (n .unit))) 4 (whole (n .balance))
-viewOf s i (MeteredResource n) = three 1 (text (textFrom (field s) (field i) (n .subject))) 5 (whole (n .remaining)) 6 (whole (n .maximum))
+viewOf s i (ConsumableStack n) = three 1 (text (textFrom (field s) (field i) (n .subject))) 2 (text (textFrom (field s) (field i) (n .unit))) 3 (figure (n .quantity))
+viewOf s i (FungibleBalance n) = three 1 (text (textFrom (field s) (field i) (n .subject))) 2 (text (textFrom (field s) (field i) (n .unit))) 4 (figure (n .balance))
+viewOf s i (MeteredResource n) = three 1 (text (textFrom (field s) (field i) (n .subject))) 5 (figure (n .remaining)) 6 (figure (n .maximum))
 
 abbrev pub kindMade : Makes → State
 kindMade (stack-of x y q) = Kind.Stack

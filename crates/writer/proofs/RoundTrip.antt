@@ -15,7 +15,7 @@ use Rattle.sheet.specs.declared.State.{State}
 use Rattle.sheet.specs.declared.State.the-variants as State
 use Rattle.sheet.specs.Sheet.{entryAt, entriesFrom, table, partOf, lengthFits, isForm, soundAs, stateOf, stackForm, balanceForm, meterForm}
 use Rattle.sheet.specs.Amounts.{amountAt, amountBytes}
-use Rattle.sheet.specs.Fields.{Field, text, whole, fieldOfKind, field, three}
+use Rattle.sheet.specs.Fields.{Field, text, figure, fieldOfKind, field, three}
 use Rattle.writer.specs.Encode.{encode, formItems, stackSheet, balanceSheet, meterSheet}
 use Rattle.writer.proofs.Copying.{three-length}
 use Rattle.writer.proofs.AmountBytes.{amount-back}
@@ -78,7 +78,7 @@ module _ (f : Form) (x y z : List ℕ) (low : 19 + length x + length y < 65536) 
       ∙ take-append-seam z []
 
   -- every name's field
-  pub fields-back : (name : ℕ) → field sheet name ≡ three 1 (text x) (f .second) (fieldOfKind (f .kind) y) (f .third) (whole (amountAt z 0)) name
+  pub fields-back : (name : ℕ) → field sheet name ≡ three 1 (text x) (f .second) (fieldOfKind (f .kind) y) (f .third) (figure (amountAt z 0)) name
   fields-back name = three-fields sheet first second third table-back name ∙ rw (first-body, second-body, third-body)
 
   -- sound where each body has a length of its kind
@@ -108,7 +108,7 @@ pub record Back (s : List ℕ) (kind : State) (view : ℕ → Field) : Type 0 wh
 
 module _ (x : List ℕ) (lx : length x ≤ 256) where
   module _ (y : List ℕ) (ly : length y ≤ 256) (a : Amount) (ha : Sized a) where
-    pub stack-back : Back (stackSheet x y a) State.Stack (three 1 (text x) 2 (text y) 3 (whole a))
+    pub stack-back : Back (stackSheet x y a) State.Stack (three 1 (text x) 2 (text y) 3 (figure a))
     unfolding stackSheet soundAs
     stack-back =
         let z : List ℕ = amountBytes a in
@@ -117,7 +117,7 @@ module _ (x : List ℕ) (lx : length x ≤ 256) where
           fields = λ name. fields-back stackForm x y z (omega arith) (omega arith) name ∙ rw (read-back a ha);
         }
 
-    pub balance-back : Back (balanceSheet x y a) State.Balance (three 1 (text x) 2 (text y) 4 (whole a))
+    pub balance-back : Back (balanceSheet x y a) State.Balance (three 1 (text x) 2 (text y) 4 (figure a))
     unfolding balanceSheet soundAs
     balance-back =
         let z : List ℕ = amountBytes a in
@@ -126,7 +126,7 @@ module _ (x : List ℕ) (lx : length x ≤ 256) where
           fields = λ name. fields-back balanceForm x y z (omega arith) (omega arith) name ∙ rw (read-back a ha);
         }
 
-  pub meter-back : (r m : Amount) → Sized r → Sized m → Back (meterSheet x r m) State.Meter (three 1 (text x) 5 (whole r) 6 (whole m))
+  pub meter-back : (r m : Amount) → Sized r → Sized m → Back (meterSheet x r m) State.Meter (three 1 (text x) 5 (figure r) 6 (figure m))
   unfolding meterSheet soundAs
   meter-back r m hr hm =
       let y : List ℕ = amountBytes r in

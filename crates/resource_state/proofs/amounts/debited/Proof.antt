@@ -1,4 +1,4 @@
-use Rattle.resource_state.specs.Next.{difference}
+use Rattle.resource_state.specs.Next.{difference-of}
 use Rattle.resource_state.specs.Apply.{holding, lowering}
 use Rattle.resource_state.proofs.Laws.{amount-refused, amount-after}
 use mathlib.Core.Path.{sym, _∙_}
@@ -13,7 +13,7 @@ enum-known-e : tie.Need-enum-known-e
 enum-known-e c = search needs
 
 returns : tie.Need-returns
-returns c = amount-refused (c .before .before .before .before .before .before .args .state .now) (c .before .before .before .before .before .before .args .input .now) holding (lowering (c .before .before .before .before .before .before .args .held) (c .before .before .before .before .before .before .args .asked)) (difference (c .before .before .before .before .before .before .args .held) (c .before .before .before .before .before .before .args .asked)) _ (sym (c .before .before .before .require-texts .ensures) ∙ c .before .e .given .1)
+returns c = amount-refused (c .before .before .before .before .before .before .args .state .now) (c .before .before .before .before .before .before .args .input .now) holding (lowering (c .before .before .before .before .before .before .args .held) (c .before .before .before .before .before .before .args .asked)) (difference-of (c .before .before .before .before .before .before .args .held) (c .before .before .before .before .before .before .args .asked)) _ (sym (c .before .before .before .require-texts .ensures) ∙ c .before .e .given .1)
 
 enum-told : tie.Need-enum-told
 enum-told c = search needs
@@ -22,7 +22,7 @@ lowered-requires : tie.Need-lowered-requires
 lowered-requires c κs = search needs
 
 returns-2 : tie.Need-returns-2
-returns-2 c = amount-after (c .before .before .before .before .before .before .args .state .now) (c .before .before .before .before .before .before .args .input .now) holding (lowering (c .before .before .before .before .before .before .args .held) (c .before .before .before .before .before .before .args .asked)) (difference (c .before .before .before .before .before .before .args .held) (c .before .before .before .before .before .before .args .asked)) (sym (c .before .before .before .require-texts .ensures) ∙ c .before .enum-told .given .1) (c .lowered .ensures)
+returns-2 c = amount-after (c .before .before .before .before .before .before .args .state .now) (c .before .before .before .before .before .before .args .input .now) holding (lowering (c .before .before .before .before .before .before .args .held) (c .before .before .before .before .before .before .args .asked)) (difference-of (c .before .before .before .before .before .before .args .held) (c .before .before .before .before .before .before .args .asked)) (sym (c .before .before .before .require-texts .ensures) ∙ c .before .enum-told .given .1) (c .lowered .ensures)
 
 pub debited-spec : {M : Type 1} → statement M
 debited-spec =

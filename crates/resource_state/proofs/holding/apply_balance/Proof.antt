@@ -1,6 +1,6 @@
 use mathlib.Core.List.{[], _∷_, _++_}
 use Rattle.registry.specs.Tests.{born, in-text, in-amount, st-text}
-use Rattle.resource_state.specs.Next.{given, sum, difference, balanceOf}
+use Rattle.resource_state.specs.Next.{given, sum-of, difference-of, balanceOf}
 use Rattle.resource_state.specs.Apply.{holding, raising, lowering, balanceNext}
 use Rattle.resource_state.specs.declared.Part.the-variants.{State, Input}
 use Rattle.resource_state.proofs.Laws.{made-with}
@@ -75,39 +75,39 @@ returns c = rw (c .before .before .match .keys1) (made-with [] (c .before .befor
 
 returns-2 : tie.Need-returns-2
 unfolding balanceNext
-returns-2 c = rw (c .before .before .match .keys2) (made-with (c .before .before .before .before .before .args .state .now) (c .before .before .before .before .before .args .input .now) (holding ++ raising 4 7) (sum 4 7) (balanceOf (State 1) (State 2)) (c .before .credited .ensures) (c .balance-with .ensures))
+returns-2 c = rw (c .before .before .match .keys2) (made-with (c .before .before .before .before .before .args .state .now) (c .before .before .before .before .before .args .input .now) (holding ++ raising 4 7) (sum-of 4 7) (balanceOf (State 1) (State 2)) (c .before .credited .ensures) (c .balance-with .ensures))
 
 returns-3 : tie.Need-returns-3
 unfolding balanceNext
-returns-3 c = rw (c .before .before .match .keys3) (made-with (c .before .before .before .before .before .args .state .now) (c .before .before .before .before .before .args .input .now) (holding ++ raising 4 7) (sum 4 7) (balanceOf (State 1) (State 2)) (c .before .credited2 .ensures) (c .balance-with2 .ensures))
+returns-3 c = rw (c .before .before .match .keys3) (made-with (c .before .before .before .before .before .args .state .now) (c .before .before .before .before .before .args .input .now) (holding ++ raising 4 7) (sum-of 4 7) (balanceOf (State 1) (State 2)) (c .before .credited2 .ensures) (c .balance-with2 .ensures))
 
 returns-4 : tie.Need-returns-4
 unfolding balanceNext
-returns-4 c = rw (c .before .before .match .keys4) (made-with (c .before .before .before .before .before .args .state .now) (c .before .before .before .before .before .args .input .now) (holding ++ lowering 4 7) (difference 4 7) (balanceOf (State 1) (State 2)) (c .before .debited .ensures) (c .balance-with3 .ensures))
+returns-4 c = rw (c .before .before .match .keys4) (made-with (c .before .before .before .before .before .args .state .now) (c .before .before .before .before .before .args .input .now) (holding ++ lowering 4 7) (difference-of 4 7) (balanceOf (State 1) (State 2)) (c .before .debited .ensures) (c .balance-with3 .ensures))
 
 returns-5 : tie.Need-returns-5
 unfolding balanceNext
-returns-5 c = rw (c .before .before .match .keys5) (made-with (c .before .before .before .before .before .args .state .now) (c .before .before .before .before .before .args .input .now) (born ∷ in-text 8 ∷ st-text 1 ∷ st-text 2 ∷ lowering 4 7) (difference 4 7) (balanceOf (State 1) (State 2)) (c .before .transferred .ensures) (c .balance-with4 .ensures))
+returns-5 c = rw (c .before .before .match .keys5) (made-with (c .before .before .before .before .before .args .state .now) (c .before .before .before .before .before .args .input .now) (born ∷ in-text 8 ∷ st-text 1 ∷ st-text 2 ∷ lowering 4 7) (difference-of 4 7) (balanceOf (State 1) (State 2)) (c .before .transferred .ensures) (c .balance-with4 .ensures))
 
 returns-6 : tie.Need-returns-6
 unfolding balanceNext
-returns-6 c = rw (c .before .before .match .keys6) (made-with (c .before .before .before .before .before .args .state .now) (c .before .before .before .before .before .args .input .now) (holding ++ lowering 4 7) (difference 4 7) (balanceOf (State 1) (State 2)) (c .before .debited2 .ensures) (c .balance-with5 .ensures))
+returns-6 c = rw (c .before .before .match .keys6) (made-with (c .before .before .before .before .before .args .state .now) (c .before .before .before .before .before .args .input .now) (holding ++ lowering 4 7) (difference-of 4 7) (balanceOf (State 1) (State 2)) (c .before .debited2 .ensures) (c .balance-with5 .ensures))
 
 returns-7 : tie.Need-returns-7
 unfolding balanceNext
-returns-7 c = rw (c .before .before .match .keys7) (made-with (c .before .before .before .before .before .args .state .now) (c .before .before .before .before .before .args .input .now) (holding ++ raising 4 7) (sum 4 7) (balanceOf (State 1) (State 2)) (c .before .credited3 .ensures) (c .balance-with6 .ensures))
+returns-7 c = rw (c .before .before .match .keys7) (made-with (c .before .before .before .before .before .args .state .now) (c .before .before .before .before .before .args .input .now) (holding ++ raising 4 7) (sum-of 4 7) (balanceOf (State 1) (State 2)) (c .before .credited3 .ensures) (c .balance-with6 .ensures))
 
 returns-8 : tie.Need-returns-8
 unfolding balanceNext
-returns-8 c = rw (c .before .before .match .keys8) (made-with (c .before .before .before .before .before .args .state .now) (c .before .before .before .before .before .args .input .now) (holding ++ lowering 4 7) (difference 4 7) (balanceOf (State 1) (State 2)) (c .before .debited3 .ensures) (c .balance-with7 .ensures))
+returns-8 c = rw (c .before .before .match .keys8) (made-with (c .before .before .before .before .before .args .state .now) (c .before .before .before .before .before .args .input .now) (holding ++ lowering 4 7) (difference-of 4 7) (balanceOf (State 1) (State 2)) (c .before .debited3 .ensures) (c .balance-with7 .ensures))
 
 returns-9 : tie.Need-returns-9
 unfolding balanceNext
-returns-9 c = rw (c .before .before .match .keys9) (made-with (c .before .before .before .before .before .args .state .now) (c .before .before .before .before .before .args .input .now) (holding ++ lowering 4 7) (difference 4 7) (balanceOf (State 1) (State 2)) (c .before .debited4 .ensures) (c .balance-with8 .ensures))
+returns-9 c = rw (c .before .before .match .keys9) (made-with (c .before .before .before .before .before .args .state .now) (c .before .before .before .before .before .args .input .now) (holding ++ lowering 4 7) (difference-of 4 7) (balanceOf (State 1) (State 2)) (c .before .debited4 .ensures) (c .balance-with8 .ensures))
 
 returns-10 : tie.Need-returns-10
 unfolding balanceNext
-returns-10 c = rw (c .before .before .match .keys10) (made-with (c .before .before .before .before .before .args .state .now) (c .before .before .before .before .before .args .input .now) (born ∷ st-text 1 ∷ in-text 9 ∷ lowering 4 7) (difference 4 7) (balanceOf (State 1) (Input 9)) (c .before .converted .ensures) (c .balance2 .ensures))
+returns-10 c = rw (c .before .before .match .keys10) (made-with (c .before .before .before .before .before .args .state .now) (c .before .before .before .before .before .args .input .now) (born ∷ st-text 1 ∷ in-text 9 ∷ lowering 4 7) (difference-of 4 7) (balanceOf (State 1) (Input 9)) (c .before .converted .ensures) (c .balance2 .ensures))
 
 returns-11 : tie.Need-returns-11
 unfolding balanceNext

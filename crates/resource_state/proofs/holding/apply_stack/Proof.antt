@@ -1,6 +1,6 @@
 use mathlib.Core.List.{[], _∷_, _++_}
 use Rattle.registry.specs.Tests.{born, in-text, in-amount, st-text}
-use Rattle.resource_state.specs.Next.{zero, given, sum, difference, stackOf}
+use Rattle.resource_state.specs.Next.{zero, given, sum-of, difference-of, stackOf}
 use Rattle.resource_state.specs.Apply.{holding, raising, lowering, stackNext}
 use Rattle.resource_state.specs.declared.Part.the-variants.{State, Input}
 use Rattle.resource_state.proofs.Laws.{made-with}
@@ -69,27 +69,27 @@ returns c = rw (c .before .before .match .keys1) (made-with [] (c .before .befor
 
 returns-2 : tie.Need-returns-2
 unfolding stackNext
-returns-2 c = rw (c .before .before .match .keys2) (made-with (c .before .before .before .before .before .args .state .now) (c .before .before .before .before .before .args .input .now) (holding ++ raising 3 3) (sum 3 3) (stackOf (State 1) (State 2)) (c .before .credited .ensures) (c .stack-with .ensures))
+returns-2 c = rw (c .before .before .match .keys2) (made-with (c .before .before .before .before .before .args .state .now) (c .before .before .before .before .before .args .input .now) (holding ++ raising 3 3) (sum-of 3 3) (stackOf (State 1) (State 2)) (c .before .credited .ensures) (c .stack-with .ensures))
 
 returns-3 : tie.Need-returns-3
 unfolding stackNext
-returns-3 c = rw (c .before .before .match .keys3) (made-with (c .before .before .before .before .before .args .state .now) (c .before .before .before .before .before .args .input .now) (holding ++ lowering 3 3) (difference 3 3) (stackOf (State 1) (State 2)) (c .before .debited .ensures) (c .stack-with2 .ensures))
+returns-3 c = rw (c .before .before .match .keys3) (made-with (c .before .before .before .before .before .args .state .now) (c .before .before .before .before .before .args .input .now) (holding ++ lowering 3 3) (difference-of 3 3) (stackOf (State 1) (State 2)) (c .before .debited .ensures) (c .stack-with2 .ensures))
 
 returns-4 : tie.Need-returns-4
 unfolding stackNext
-returns-4 c = rw (c .before .before .match .keys4) (made-with (c .before .before .before .before .before .args .state .now) (c .before .before .before .before .before .args .input .now) (holding ++ lowering 3 3) (difference 3 3) (stackOf (State 1) (State 2)) (c .before .debited2 .ensures) (c .stack-with3 .ensures))
+returns-4 c = rw (c .before .before .match .keys4) (made-with (c .before .before .before .before .before .args .state .now) (c .before .before .before .before .before .args .input .now) (holding ++ lowering 3 3) (difference-of 3 3) (stackOf (State 1) (State 2)) (c .before .debited2 .ensures) (c .stack-with3 .ensures))
 
 returns-5 : tie.Need-returns-5
 unfolding stackNext
-returns-5 c = rw (c .before .before .match .keys5) (made-with (c .before .before .before .before .before .args .state .now) (c .before .before .before .before .before .args .input .now) (born ∷ in-text 8 ∷ st-text 1 ∷ st-text 2 ∷ lowering 3 3) (difference 3 3) (stackOf (State 1) (State 2)) (c .before .transferred .ensures) (c .stack-with4 .ensures))
+returns-5 c = rw (c .before .before .match .keys5) (made-with (c .before .before .before .before .before .args .state .now) (c .before .before .before .before .before .args .input .now) (born ∷ in-text 8 ∷ st-text 1 ∷ st-text 2 ∷ lowering 3 3) (difference-of 3 3) (stackOf (State 1) (State 2)) (c .before .transferred .ensures) (c .stack-with4 .ensures))
 
 returns-6 : tie.Need-returns-6
 unfolding stackNext
-returns-6 c = rw (c .before .before .match .keys6) (made-with (c .before .before .before .before .before .args .state .now) (c .before .before .before .before .before .args .input .now) (holding ++ lowering 3 3) (difference 3 3) (stackOf (State 1) (State 2)) (c .before .debited3 .ensures) (c .stack-with5 .ensures))
+returns-6 c = rw (c .before .before .match .keys6) (made-with (c .before .before .before .before .before .args .state .now) (c .before .before .before .before .before .args .input .now) (holding ++ lowering 3 3) (difference-of 3 3) (stackOf (State 1) (State 2)) (c .before .debited3 .ensures) (c .stack-with5 .ensures))
 
 returns-7 : tie.Need-returns-7
 unfolding stackNext
-returns-7 c = rw (c .before .before .match .keys7) (made-with (c .before .before .before .before .before .args .state .now) (c .before .before .before .before .before .args .input .now) (holding ++ raising 3 3) (sum 3 3) (stackOf (State 1) (State 2)) (c .before .credited2 .ensures) (c .stack-with6 .ensures))
+returns-7 c = rw (c .before .before .match .keys7) (made-with (c .before .before .before .before .before .args .state .now) (c .before .before .before .before .before .args .input .now) (holding ++ raising 3 3) (sum-of 3 3) (stackOf (State 1) (State 2)) (c .before .credited2 .ensures) (c .stack-with6 .ensures))
 
 returns-8 : tie.Need-returns-8
 unfolding stackNext
