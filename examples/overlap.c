@@ -1,6 +1,6 @@
-/* A gateway's book: three places, transfers that overlap both ways, refused steps among them, and the transfers finished
- * in reverse. After each step it prints the answer, the balances, what is under way and the total. Then it hands over
- * what no sender should send, and shows the copy to make where a sheet stands in the book's own memory. */
+/* A gateway's book: three places, transfers that overlap both ways, refused steps among them, the transfers finished in
+ * reverse, and one that is cancelled. After each step it prints the answer, the balances, what is under way and the total.
+ * Then it hands over what no sender should send, and shows the copy to make where a sheet stands in the book's own memory. */
 #include <credits.h>
 #include <credits_sheet.h>
 #include <stdio.h>
@@ -134,6 +134,10 @@ int main(void)
     print_step("finish 0", credits_book_finish(&book, 0), &book);
     print_step("finish 0 again", credits_book_finish(&book, 0), &book);
     print_step("N1 spends 1", act(&book, N1, CREDITS_BALANCE_SPEND, asking(1)), &book);
+
+    print_step("begin 0: N1 to GW, 4", begin(&book, N1, GW, 0, asking(4)), &book); /* the wrong node was picked */
+    print_step("cancel 0", credits_book_cancel(&book, 0), &book); /* back at N1 */
+    print_step("cancel 0 again", credits_book_cancel(&book, 0), &book);
 
     uint8_t noise[64];
     for (unsigned i = 0; i < sizeof noise; i++)

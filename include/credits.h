@@ -24,9 +24,9 @@
  * on many inputs and not proved; docs/PERFORMANCE.md says how, and has estimates for a Cortex-M0.
  *
  *   credits_amount_read      120    credits_credit         1080    credits_book_finish      1976
- *   credits_amount_compare    96    credits_book_start     2536    credits_session_run      6456
- *   credits_amount_add       104    credits_book_open      2008    credits_session_listing  6472
- *   credits_amount_sub       104    credits_book_act       2008
+ *   credits_amount_compare    96    credits_book_start     2536    credits_book_cancel      1976
+ *   credits_amount_add       104    credits_book_open      2008    credits_session_run      6456
+ *   credits_amount_sub       104    credits_book_act       2008    credits_session_listing  6472
  *   credits_amount_text      720    credits_book_begin     2008
  *   credits_check           1064
  *   credits_apply           1096
@@ -133,7 +133,8 @@ enum {
     CREDITS_ENTRY_OPEN = 1,
     CREDITS_ENTRY_ACT = 2,
     CREDITS_ENTRY_BEGIN = 3,
-    CREDITS_ENTRY_FINISH = 4
+    CREDITS_ENTRY_FINISH = 4,
+    CREDITS_ENTRY_CANCEL = 5
 };
 
 /* What credits_amount_compare gives. */
@@ -189,7 +190,7 @@ typedef struct { uint8_t from, to; credits_amount amount; } credits_transfer;
 /* A book. Bit p of opened: place p is open. Bit t of pending: transfer t is under way. places and transfers say something
  * where their bit is set.
  *
- * A caller may read every field and writes none: a book is made by credits_book_start and altered by the four steps.
+ * A caller may read every field and writes none: a book is made by credits_book_start and altered by the five steps.
  *
  * To keep a book, copy its sizeof(credits_book) bytes, and back. They are of one machine and one CREDITS_VERSION: keep the
  * version beside them. The bytes between the fields are of no meaning, so equal books may differ there; compare fields. A
@@ -252,13 +253,15 @@ credits_answer credits_credit(uint8_t operation, const uint8_t *source, uint64_t
 credits_started credits_book_start(const uint8_t *unit, uint64_t unit_len);
 
 /* The steps, done in the book that is lent. Sheets are input sheets, as check takes them; act's operations are those of a
- * balance but create, transfer and convert. */
+ * balance but create, transfer and convert. Finish puts the credits of a transfer at its destination, cancel puts them back at
+ * its source; after both the number is free again. */
 credits_answer credits_book_open(credits_book *book, uint8_t place, const uint8_t *sheet, uint64_t sheet_len);
 credits_answer credits_book_act(credits_book *book, uint8_t place, uint8_t operation, const uint8_t *sheet,
                                 uint64_t sheet_len);
 credits_answer credits_book_begin(credits_book *book, uint8_t from, uint8_t to, uint8_t transfer, const uint8_t *sheet,
                                   uint64_t sheet_len);
 credits_answer credits_book_finish(credits_book *book, uint8_t transfer);
+credits_answer credits_book_cancel(credits_book *book, uint8_t transfer);
 
 /* The run of a session, from its start. */
 credits_run credits_session_run(const uint8_t *session, uint64_t session_len);

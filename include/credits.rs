@@ -95,6 +95,7 @@ pub const ENTRY_OPEN: u8 = 1;
 pub const ENTRY_ACT: u8 = 2;
 pub const ENTRY_BEGIN: u8 = 3;
 pub const ENTRY_FINISH: u8 = 4;
+pub const ENTRY_CANCEL: u8 = 5;
 
 // What `amount_compare` gives.
 pub const LESS: u8 = 0;
@@ -253,6 +254,7 @@ extern "C" {
     pub fn credits_book_act(book: *mut Book, place: u8, operation: u8, sheet: *const u8, n: u64) -> Answer;
     pub fn credits_book_begin(book: *mut Book, from: u8, to: u8, transfer: u8, sheet: *const u8, n: u64) -> Answer;
     pub fn credits_book_finish(book: *mut Book, transfer: u8) -> Answer;
+    pub fn credits_book_cancel(book: *mut Book, transfer: u8) -> Answer;
     pub fn credits_session_run(session: *const u8, n: u64) -> Run;
     pub fn credits_session_listing(session: *const u8, n: u64, out: *mut u8, out_n: u64) -> u16;
     pub fn credits_book_size() -> u32;
@@ -378,6 +380,10 @@ pub fn book_begin(book: &mut Book, from: u8, to: u8, transfer: u8, sheet: &[u8])
 
 pub fn book_finish(book: &mut Book, transfer: u8) -> Answer {
     unsafe { credits_book_finish(book, transfer) }
+}
+
+pub fn book_cancel(book: &mut Book, transfer: u8) -> Answer {
+    unsafe { credits_book_cancel(book, transfer) }
 }
 
 pub fn session_run(session: &[u8]) -> Run {
@@ -528,6 +534,7 @@ pub enum Entry<'a> {
     Act { place: u8, operation: u8, sheet: &'a [u8] },
     Begin { from: u8, to: u8, transfer: u8, sheet: &'a [u8] },
     Finish { transfer: u8 },
+    Cancel { transfer: u8 },
 }
 
 impl<'a> Entry<'a> {
@@ -538,6 +545,7 @@ impl<'a> Entry<'a> {
             Entry::Act { place, operation, sheet } => ([ENTRY_ACT, place, operation, 0], sheet),
             Entry::Begin { from, to, transfer, sheet } => ([ENTRY_BEGIN, from, to, transfer], sheet),
             Entry::Finish { transfer } => ([ENTRY_FINISH, 0, 0, transfer], &[]),
+            Entry::Cancel { transfer } => ([ENTRY_CANCEL, 0, 0, transfer], &[]),
         }
     }
 }
@@ -552,7 +560,7 @@ pub fn build_session<'a>(entries: &[Entry], out: &'a mut [u8]) -> Option<&'a [u8
     for (k, entry) in entries.iter().enumerate() {
         let ([kind, ..], body) = entry.parts();
         // an empty sheet is taken for one that was not built
-        if (kind == ENTRY_START) != (k == 0) || body.is_empty() != (kind == ENTRY_FINISH) {
+        if (kind == ENTRY_START) != (k == 0) || body.is_empty() != matches!(kind, ENTRY_FINISH | ENTRY_CANCEL) {
             return None;
         }
         end = end.checked_add(body.len())?;

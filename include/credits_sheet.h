@@ -220,7 +220,12 @@ static inline credits_entry credits_entry_finish(uint8_t transfer)
     return credits_entry_(CREDITS_ENTRY_FINISH, 0, 0, transfer, NULL, 0);
 }
 
-/* As document 01 has each kind: what it does not use is 0, and all but finish have a body. */
+static inline credits_entry credits_entry_cancel(uint8_t transfer)
+{
+    return credits_entry_(CREDITS_ENTRY_CANCEL, 0, 0, transfer, NULL, 0);
+}
+
+/* As documents 01 and 02 have each kind: what it does not use is 0, and all but finish and cancel have a body. */
 static inline int credits_entry_fits_(const credits_entry *e)
 {
     int has_body = e->body && e->body_len > 0 && e->body_len <= CREDITS_SESSION_MAX;
@@ -234,6 +239,7 @@ static inline int credits_entry_fits_(const credits_entry *e)
     case CREDITS_ENTRY_BEGIN:
         return has_body;
     case CREDITS_ENTRY_FINISH:
+    case CREDITS_ENTRY_CANCEL:
         return e->a == 0 && e->b == 0 && e->body_len == 0;
     default:
         return 0;

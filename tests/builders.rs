@@ -141,6 +141,13 @@ fn books_and_sessions() {
     assert_eq!(book_finish(&mut book, 7).number, ACCEPTED);
     assert_eq!(book_act(&mut book, 1, BALANCE_SPEND, five).number, ACCEPTED);
     assert_eq!(book_finish(&mut book, 7).number, IDLE);
+    assert_eq!(book_act(&mut book, 0, BALANCE_CREDIT, five).number, ACCEPTED);
+    assert_eq!(book_begin(&mut book, 0, 1, 7, five).number, ACCEPTED);
+    assert_eq!(book_act(&mut book, 0, BALANCE_SPEND, five).number, SHORT);
+    assert_eq!(book_cancel(&mut book, 7).number, ACCEPTED);
+    assert_eq!((book.places[0].balance, book.places[1].balance, book.pending), (amount(0, 5, 0), amount(0, 0, 0), 0));
+    assert_eq!(book_cancel(&mut book, 7).number, IDLE);
+    assert_eq!(book_cancel(&mut book, 8).number, OFF_THE_BOOK);
 
     let start = Entry::Start { unit: b"rd" };
     let entries = [
@@ -160,6 +167,8 @@ fn books_and_sessions() {
     let act = Entry::Act { place: 9, operation: BALANCE_SPEND, sheet: five };
     let bytes = [2, 0, 0, 0, 0, 0, 18, 0, 2, 0, 2, 9, 18, 0, 20, 0, 8, 0, b'r', b'd', 1, 7, 1, 7, 0, 1, 0, b'5'];
     gives(&bytes, |out| build_session(&[start, act], out).map(Vec::from));
+    let bytes = [2, 0, 0, 0, 0, 0, 18, 0, 2, 0, 5, 0, 0, 6, 20, 0, 0, 0, b'r', b'd'];
+    gives(&bytes, |out| build_session(&[start, Entry::Cancel { transfer: 6 }], out).map(Vec::from));
 
     refuses_session(&[]);
     refuses_session(&entries[1..]);

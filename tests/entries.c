@@ -1,4 +1,4 @@
-/* Every entry of credits.h, called through libcredits.a: cases worked out by hand from document 01, buffers of each length
+/* Every entry of credits.h, called through libcredits.a: cases worked out by hand from documents 01 and 02, buffers of each length
  * in turn, slices of no bytes, and random books, sheets and sessions. Prints each difference with its line, then one line of
  * counts; status 1 where anything differed. ./test builds and runs it. An argument is another seed for the random part. */
 #include "entries.h"
@@ -509,9 +509,22 @@ static const step_case steps[] = {
     DONE(ACT, 2, 19, 0, "7:6 10:b", "6/0", "2/0", "0/0", WAYS),
     REFUSED(FINISH, 0, 0, 8, NULL, 22, 0),
     REFUSED(FINISH, 0, 0, 2, NULL, 23, 0),
+    REFUSED(CANCEL, 0, 0, 8, NULL, 22, 0),
+    REFUSED(CANCEL, 0, 0, 2, NULL, 23, 0),
     DONE(FINISH, 0, 0, 0, NULL, "6/0", "6/0", "0/0", WAY_1),
     REFUSED(FINISH, 0, 0, 0, NULL, 23, 0),
     DONE(FINISH, 0, 0, 1, NULL, "9/0", "6/0", "0/0", NO_WAY),
+    REFUSED(CANCEL, 0, 0, 1, NULL, 23, 0), /* it has arrived */
+    DONE(BEGIN, 0, 1, 0, "7:4", "5/0", "6/0", "0/0", WAY_0),
+    DONE(BEGIN, 1, 0, 1, "7:3", "5/0", "3/0", "0/0", WAYS),
+    STEP_SHORT(ACT, 0, 18, 0, "7:6", "5/0", "6/0"),
+    DONE(CANCEL, 0, 0, 0, NULL, "9/0", "3/0", "0/0", WAY_1), /* back at its source, and the other stays under way */
+    REFUSED(CANCEL, 0, 0, 0, NULL, 23, 0),
+    REFUSED(FINISH, 0, 0, 0, NULL, 23, 0),
+    DONE(ACT, 0, 18, 0, "7:6", "3/0", "3/0", "0/0", WAY_1),
+    DONE(CANCEL, 0, 0, 1, NULL, "3/0", "6/0", "0/0", NO_WAY),
+    DONE(BEGIN, 1, 0, 1, "7:3", "3/0", "3/0", "0/0", WAY_1), /* the number is free again */
+    DONE(FINISH, 0, 0, 1, NULL, "6/0", "3/0", "0/0", NO_WAY),
 };
 
 static void stepping(void)
@@ -531,7 +544,7 @@ static void stepping(void)
 }
 
 /* A full book, N1 with 2^128 - 1 and a transfer of nothing under way from N1 to N2, with one byte of it altered: 28, or
- * what finish of another transfer answers on a sound book. */
+ * what finish and cancel of another transfer answer on a sound book. */
 static void judging(void)
 {
     enum { IDLE = 23 };
@@ -563,6 +576,7 @@ static void judging(void)
         ((uint8_t *)&b)[cases[k].offset] = cases[k].value;
         before = b;
         answer_is(cases[k].at, credits_book_finish(&b, 5), refused(cases[k].number, 0));
+        answer_is(cases[k].at, credits_book_cancel(&b, 5), refused(cases[k].number, 0));
         book_is(cases[k].at, &b, &before);
     }
 }

@@ -1,5 +1,5 @@
 /* What the parts of the test of every entry share: differences and counts, comparing, sheets in words, steps, sessions. The layout of
- * sheets and sessions is written here once more, from document 01 and not from tools/layout.py, on purpose: a mistake in one is seen
+ * sheets and sessions is written here once more, from the documents and not from tools/layout.py, on purpose: a mistake in one is seen
  * in the other. */
 #ifndef ENTRIES_H
 #define ENTRIES_H
@@ -8,8 +8,8 @@
 #include <stddef.h>
 #include <stdint.h>
 
-/* Kinds of calls; START to FINISH are also the kinds of a session's entries. */
-enum { START, OPEN, ACT, BEGIN, FINISH, CHECK, APPLY, CREDIT, KINDS };
+/* Kinds of calls; START to CANCEL are also the kinds of a session's entries. */
+enum { START, OPEN, ACT, BEGIN, FINISH, CANCEL, CHECK, APPLY, CREDIT, KINDS };
 enum { TEXT = 1, OTHER = 2, AMOUNT = 3 }; /* kinds of a sheet's fields */
 enum { SHORT = 15, NARROW = 20, BAD_BOOK = 28, NUMBERS = 29 };
 

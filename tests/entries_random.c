@@ -1,4 +1,4 @@
-/* Random calls. Whatever the bytes are, an entry answers with a number that document 01 has for that call; a refusal
+/* Random calls. Whatever the bytes are, an entry answers with a number that the documents have for that call; a refusal
  * alters nothing; torn sheets, bad books and bad sessions are refused as such, and no others are; an accepted step alters
  * its own part of the book and conserves the total; a session's run is its steps one by one, and its listing says the same. */
 #include "entries.h"
@@ -55,7 +55,7 @@ static void flip_a_bit(uint8_t *bytes, size_t n)
 #define NONE D(0)
 #define AMOUNTS (D(3) | D(4) | D(5) | D(6) | D(7))
 
-static const char *const kinds[KINDS] = { "start", "open", "act", "begin", "finish", "check", "apply", "credit" };
+static const char *const kinds[KINDS] = { "start", "open", "act", "begin", "finish", "cancel", "check", "apply", "credit" };
 
 static const uint16_t details[KINDS][NUMBERS] = {
     [START] = { [0] = NONE, [9] = D(2), [27] = D(2) },
@@ -66,6 +66,7 @@ static const uint16_t details[KINDS][NUMBERS] = {
     [BEGIN] = { [0] = NONE, [2] = NONE, [6] = NONE, [7] = D(7), [10] = D(7), [11] = D(7), [14] = NONE, [15] = NONE,
                 [21] = NONE, [22] = NONE, [24] = NONE, [28] = NONE },
     [FINISH] = { [0] = NONE, [22] = NONE, [23] = NONE, [28] = NONE },
+    [CANCEL] = { [0] = NONE, [22] = NONE, [23] = NONE, [28] = NONE },
     [CHECK] = { [0] = NONE, [1] = D(1), [2] = NONE, [3] = NONE, [4] = NONE, [5] = NONE, [6] = NONE,
                 [7] = D(1) | D(2) | AMOUNTS | D(8) | D(9) | D(10), [8] = D(1) | D(2) | D(8) | D(9) | D(10),
                 [9] = D(1) | D(2) | D(8) | D(9) | D(10), [10] = AMOUNTS, [11] = AMOUNTS, [12] = D(3) | D(4) | D(5),
@@ -489,17 +490,23 @@ static void tame(credits_book *b)
     }
 }
 
+/* These have a transfer, and neither a sheet nor a place. */
+static int is_end(uint8_t kind)
+{
+    return kind == FINISH || kind == CANCEL;
+}
+
 static step any_step(void)
 {
     static const uint8_t operations[] = { 12, 13, 14, 16, 17, 18, 19 };
-    step s = { (uint8_t)(OPEN + below(4)), 0, 0, 0 };
-    if (s.kind != FINISH)
+    step s = { (uint8_t)(OPEN + below(5)), 0, 0, 0 };
+    if (!is_end(s.kind))
         s.a = some(5);
     if (s.kind == ACT)
         s.b = one_in(8) ? (uint8_t)any64() : operations[below(COUNT(operations))];
     if (s.kind == BEGIN)
         s.b = some(5);
-    if (s.kind == BEGIN || s.kind == FINISH)
+    if (s.kind == BEGIN || is_end(s.kind))
         s.t = some(4);
     return s;
 }
@@ -512,7 +519,8 @@ static void left_by(step s, const credits_book *before, const credits_book *afte
 {
     credits_book want = *before;
     credits_amount was = zero, is = zero;
-    uint8_t to = before->transfers[s.t & 7].to & 15, order;
+    const credits_transfer *carried = &before->transfers[s.t & 7];
+    uint8_t lands = (s.kind == CANCEL ? carried->from : carried->to) & 15, order;
     switch (s.kind) {
     case OPEN:
         want.opened |= (uint16_t)D(s.a);
@@ -528,9 +536,9 @@ static void left_by(step s, const credits_book *before, const credits_book *afte
         want.transfers[s.t].to = s.b;
         want.transfers[s.t].amount = after->transfers[s.t].amount;
         break;
-    default:
+    default: /* finish or cancel */
         want.pending &= (uint8_t)~D(s.t);
-        want.places[to].balance = after->places[to].balance;
+        add_to(&want.places[lands].balance.mantissa, carried->amount.mantissa);
         want.transfers[s.t] = no_book.transfers[0];
     }
     book_is(AT, after, &want);
@@ -538,7 +546,7 @@ static void left_by(step s, const credits_book *before, const credits_book *afte
     total_over(before, &was.mantissa);
     total_over(after, &is.mantissa);
     order = credits_amount_compare(was, is);
-    if (s.kind == BEGIN || s.kind == FINISH)
+    if (s.kind == BEGIN || is_end(s.kind))
         number_is(AT, "the total before, beside the one after a transfer", order, 1);
     else if (s.kind == ACT)
         number_is(AT, "the total before, beside the one after an act", order, s.b == 12 || s.b == 13 || s.b == 17 ? 0 : 2);
@@ -567,7 +575,7 @@ static void random_step(lent *l)
         left_by(s, &before.book, &l->book);
     if (a.number == SHORT)
         amount_is(AT, "available", a.available, before.book.places[s.a].balance);
-    if (s.kind != FINISH && (a.number == 0 || a.number == 2))
+    if (!is_end(s.kind) && (a.number == 0 || a.number == 2))
         number_is(AT, "the number for this sheet", a.number, is_input(&input) ? 0 : 2);
 }
 
@@ -628,21 +636,21 @@ static void any_session(session *s)
         }
         if (s->len > 30000) /* the space of a session is nearly full */
             x = finish;
-        add_entry(s, x, body.bytes, x.kind == FINISH ? 0 : body.len);
+        add_entry(s, x, body.bytes, is_end(x.kind) ? 0 : body.len);
     }
 }
 
-/* Its layout as document 01 has it, and a start that is accepted. */
+/* Its layout as the documents have it, and a start that is accepted. */
 static int is_good(const session *s)
 {
-    static const uint8_t used[] = { 0, D(1), D(1) | D(2), D(1) | D(2) | D(3), D(3) }; /* of a kind's a, b, t */
+    static const uint8_t used[] = { 0, D(1), D(1) | D(2), D(1) | D(2) | D(3), D(3), D(3) }; /* of a kind's a, b, t */
     size_t n = get16(s->bytes), end = 2 + 8 * n;
     if (s->len < 2 || s->len > 16384 || n < 1 || n > 256 || end > s->len)
         return 0;
     for (size_t k = 0; k < n; k++) {
         const uint8_t *entry = s->bytes + 2 + 8 * k;
         size_t len = get16(entry + 6);
-        if (entry[0] > FINISH || (entry[0] == START) != (k == 0) || get16(entry + 4) != end || (entry[0] == FINISH && len))
+        if (entry[0] > CANCEL || (entry[0] == START) != (k == 0) || get16(entry + 4) != end || (is_end(entry[0]) && len))
             return 0;
         for (int f = 1; f <= 3; f++)
             if (entry[f] && !(used[entry[0]] >> f & 1))

@@ -258,8 +258,10 @@ credits_answer taken(credits_book *book, step s, const uint8_t *bytes, size_t le
         return credits_book_act(book, s.a, s.b, bytes, len);
     case BEGIN:
         return credits_book_begin(book, s.a, s.b, s.t, bytes, len);
-    default:
+    case FINISH:
         return credits_book_finish(book, s.t);
+    default:
+        return credits_book_cancel(book, s.t);
     }
 }
 

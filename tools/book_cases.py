@@ -2,13 +2,13 @@
 """book_cases.py [SEED [LISTS]]: writes the lists that crates/book_cases replays, and what it must print (defaults: seed 1, 2,200 lists).
 
 The first list is document 01's worked session; each other one is a start and random steps. tools/ledger.py gives each expected answer and, at the list's end, the whole book. One list in four
-has its book altered on the way, as no step would, and goes on: 28, or whatever document 01 says of that book.
+has its book altered on the way, as no step would, and goes on: 28, or whatever documents 01 and 02 say of that book.
 
-A record: kind, a, b, t, the body's length (16 bits), the body; for a start (kind 0) and a step (1 to 4) then the expected number and
-detail, and behind 15 both amounts (16 bytes each, little-endian). Kind 5 alters field a of record b to t. Kind 6 ends a list: its body is
+A record: kind, a, b, t, the body's length (16 bits), the body; for a start (kind 0) and a step (1 to 5) then the expected number and
+detail, and behind 15 both amounts (16 bytes each, little-endian). Kind 16 alters field a of record b to t. Kind 17 ends a list: its body is
 the expected book: the open places (16 bits), the transfers under way (8 bits), each open place's subject (33 bytes: 32 and the length) and
-balance, each transfer's ends and amount. Kind 7 is the list before it once more, through the run: its body is the list as a session, t the
-number of steps; behind it the length (16 bits) of what is expected: each step's number and detail, then the book as kind 6 has it. A list
+balance, each transfer's ends and amount. Kind 18 is the list before it once more, through the run: its body is the list as a session, t the
+number of steps; behind it the length (16 bits) of what is expected: each step's number and detail, then the book as kind 17 has it. A list
 that is no good session has none: its start was refused, its book was altered, or its bytes are no session.
 """
 import collections, os, random, struct, sys
@@ -18,6 +18,7 @@ from random_steps import a_step
 seed, lists = int(sys.argv[1]) if len(sys.argv) > 1 else 1, int(sys.argv[2]) if len(sys.argv) > 2 else 2200
 rng = random.Random(seed)
 CRATE = os.path.join(os.path.dirname(os.path.abspath(__file__)), "..", "crates", "book_cases")
+ALTER, LOOK, RUN = 16, 17, 18  # kinds of records that are no steps; those below are left to steps
 def start_unit():
     return rng.choice([b"rd"] * 60 + [b"", b"u" * 32, b"u" * 33])
 
@@ -77,8 +78,8 @@ def whole(book):
 
 
 def as_entry(kind, a, b, t, body):
-    """A step as a session's entry: what its kind does not use is 0, and a finish has no body."""
-    return {1: (1, a, 0, 0, body), 2: (2, a, b, 0, body), 3: (3, a, b, t, body), 4: (4, 0, 0, t, b"")}[kind]
+    """A step as a session's entry: what its kind does not use is 0, and a finish or a cancel has no body."""
+    return {1: (1, a, 0, 0, body), 2: (2, a, b, 0, body), 3: (3, a, b, t, body), 4: (4, 0, 0, t, b""), 5: (5, 0, 0, t, b"")}[kind]
 
 
 def why_not(entries, was_altered):
@@ -97,7 +98,7 @@ def put_run(entries, answers, book):
     run_book, ran = run(data)
     assert ran == answers and whole(run_book) == whole(book)
     expected = b"".join(bytes(answer[:2]) for answer in ran) + whole(run_book)
-    put(7, 0, 0, len(ran), data)
+    put(RUN, 0, 0, len(ran), data)
     out += struct.pack("<H", len(expected)) + expected
     runs, run_answers = runs + 1, run_answers + len(ran)
 
@@ -116,7 +117,7 @@ for n in range(lists):
     state, entries, answers = 0, [(0, 0, 0, 0, unit)], []
     for k in range(rng.randrange(4, 14) if n else 5):
         if n % 4 == 3 and k > 2 and rng.random() < .5:
-            put(5, *alter(book), b"")
+            put(ALTER, *alter(book), b"")
             altered += 1
             state = state or 1
         entry = a_step(rng, book, k) if n else worked()[k]
@@ -127,7 +128,7 @@ for n in range(lists):
         state = 2 if answer[0] == 28 and state == 1 else state
     bad += state == 2
     looks += 1
-    put(6, 0, 0, 0, whole(book))
+    put(LOOK, 0, 0, 0, whole(book))
     reason = why_not(entries, state)
     if reason:
         left_out[reason] += 1

@@ -179,7 +179,7 @@ static void books(void)
     const sheet most = opening("N2", "rd", "340282366920938463463374607431768211450"), one = asking("1");
     const sheet inputs[INPUTS] = { { { 0 }, 0 }, opening("N3", "rd", "5"), opening("N3", "xx", "5"), asking("3"), asking("4000"), most };
     row start = { "credits_book_start", 3481, 0 }, open = { "credits_book_open", 2457, 0 }, act = { "credits_book_act", 2457, 0 },
-        begin = { "credits_book_begin", 2457, 0 }, finish = { "credits_book_finish", 2457, 0 };
+        begin = { "credits_book_begin", 2457, 0 }, finish = { "credits_book_finish", 2457, 0 }, cancel = { "credits_book_cancel", 2457, 0 };
     const size_t lengths[] = { 0, 1, 2, 32, 33 };
     for (size_t i = 0; i < 5; i++) {
         uint64_t regs[6] = { WORD(result), WORD("rdrdrdrdrdrdrdrdrdrdrdrdrdrdrdrdrd"), lengths[i] };
@@ -209,16 +209,19 @@ static void books(void)
                 uint64_t begins[6] = { WORD(result), WORD(&book), n, 3, n % 9, WORD(inputs[i].bytes) };
                 take(&begin, (const void *)credits_book_begin, begins, &(uint64_t){ inputs[i].len }, 1);
                 book = all[b];
-                uint64_t finishes[6] = { WORD(result), WORD(&book), n };
-                take(&finish, (const void *)credits_book_finish, finishes, NULL, 0);
+                uint64_t ends[6] = { WORD(result), WORD(&book), n };
+                take(&finish, (const void *)credits_book_finish, ends, NULL, 0);
+                book = all[b];
+                take(&cancel, (const void *)credits_book_cancel, ends, NULL, 0);
             }
     show(open);
     show(act);
     show(begin);
     show(finish);
+    show(cancel);
 }
 
-/* ---- sessions: of no bytes, of a start alone, and of 254 opens and acts with a begin and a finish among them */
+/* ---- sessions: of no bytes, of a start alone, and of 254 opens, acts and begins, each begin with its finish or its cancel */
 
 static size_t entry(uint8_t *session, size_t k, size_t at, const uint8_t head[4], const void *body, size_t len)
 {
@@ -241,7 +244,7 @@ static void sessions(void)
         at = entry(session, 0, 2 + 8 * entries, (const uint8_t[4]){ 0 }, "rd", 2);
         for (size_t k = 1; k < entries; k++) {
             uint8_t turn = (uint8_t)(k % 4), t = (uint8_t)(k / 4 % 8);
-            const uint8_t heads[4][4] = { { 1, (uint8_t)(k / 4 % 16) }, { 2, 0, 18 }, { 3, 0, 1, t }, { 4, 0, 0, t } };
+            const uint8_t heads[4][4] = { { 1, (uint8_t)(k / 4 % 16) }, { 2, 0, 18 }, { 3, 0, 1, t }, { t % 2 ? 5 : 4, 0, 0, t } };
             const sheet *body = turn == 0 ? &opened : &three;
             at = entry(session, k, at, heads[turn], body->bytes, turn == 3 ? 0 : body->len);
         }

@@ -1,6 +1,6 @@
 """The byte layout of sheets and sessions, for all tools and tests in Python: names and numbers, writing, reading, and what is wrong.
 
-Written from document 01. Others have the layout once more, on purpose, so that a mistake here is seen: the proved code (crates/sheet,
+Written from documents 01 and 02. Others have the layout once more, on purpose, so that a mistake here is seen: the proved code (crates/sheet,
 crates/session), the C test of every entry (tests/entries*.c), tools/sheet_cases.py, and the bytes written out in tools/session-test.
 """
 import struct
@@ -10,8 +10,9 @@ SUBJECT, UNIT, QUANTITY, BALANCE, REMAINING, MAXIMUM, AMOUNT, TO_SUBJECT, TO_UNI
 TEXT, NO_STRING = 1, 2  # kinds of an input sheet's fields
 MOST_TEXT = 256
 
-START, OPEN, ACT, BEGIN, FINISH = range(5)  # kinds of a session's entries
-KINDS = ("start", "open", "act", "begin", "finish")
+START, OPEN, ACT, BEGIN, FINISH, CANCEL = range(6)  # kinds of a session's entries
+KINDS = ("start", "open", "act", "begin", "finish", "cancel")
+ENDS = (FINISH, CANCEL)  # of these an entry has a transfer, t, and nothing else
 OPERATIONS = {"mint": 12, "credit": 13, "debit": 14, "reserve": 16, "release": 17, "spend": 18, "burn": 19}  # those of act
 MOST_BYTES, MOST_ENTRIES = 16384, 256
 MOST_NAME = 32  # bytes of a unit or a subject
@@ -120,12 +121,12 @@ def wrong_entry(k, kind, a, b, t, length):
         return "a second start"
     if kind >= len(KINDS):
         return "its kind is %d; kinds are 0 to %d" % (kind, len(KINDS) - 1)
-    unused = {START: "abt", OPEN: "bt", ACT: "t", BEGIN: "", FINISH: "ab"}[kind]
+    unused = {START: "abt", OPEN: "bt", ACT: "t", BEGIN: "", FINISH: "ab", CANCEL: "ab"}[kind]
     for field, value in zip("abt", (a, b, t)):
         if field in unused and value:
             return "its field %s is %d; this kind does not use it, so it must be 0" % (field, value)
-    if kind == FINISH and length:
-        return "it has a body of %s; a finish has none" % count_of(length, "byte")
+    if kind in ENDS and length:
+        return "it has a body of %s; a %s has none" % (count_of(length, "byte"), KINDS[kind])
     return None
 
 

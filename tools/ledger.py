@@ -1,4 +1,4 @@
-"""Document 01's book, sessions and listing in Python, written from the document: what the tests hold the library to.
+"""The book, sessions and listing of documents 01 and 02 in Python, written from the documents: what the tests hold the library to.
 
 A step answers (number, detail, available, requested); the last two are whole credits, 0 outside 15. The bytes of sheets and sessions are
 tools/layout.py's.
@@ -167,15 +167,27 @@ def do_begin(book, source, destination, transfer, data):
     book.pending.add(transfer)
 
 
-def do_finish(book, transfer):
+def freed(book, transfer):
+    """Frees the number of a transfer under way, its record zeros; gives what the record was."""
     if transfer > 7:
         raise Refused(22)
     if transfer not in book.pending:
         raise Refused(23)
     r = book.transfers[transfer]
-    book.places[r.destination].balance += r.amount
     book.pending.remove(transfer)
     book.transfers[transfer] = Transfer()
+    return r
+
+
+def do_finish(book, transfer):
+    r = freed(book, transfer)
+    book.places[r.destination].balance += r.amount
+
+
+def do_cancel(book, transfer):
+    """Document 02, request 1: the credits are back at the source."""
+    r = freed(book, transfer)
+    book.places[r.source].balance += r.amount
 
 
 def step(book, kind, a, b, t, body):
@@ -189,8 +201,12 @@ def step(book, kind, a, b, t, body):
             do_act(book, a, b, body)
         elif kind == 3:
             do_begin(book, a, b, t, body)
-        else:
+        elif kind == 4:
             do_finish(book, t)
+        elif kind == 5:
+            do_cancel(book, t)
+        else:
+            raise ValueError("kind %d is no step" % kind)
     except Refused as refused:
         return refused.answer
     return (0, 0, 0, 0)

@@ -40,7 +40,11 @@ def some(rng, most, odd=.05):
 
 def a_step(rng, book, k):
     """Opens first; then any step, mostly one that the book could take."""
-    kind = 1 if k < 3 and rng.random() < .9 else rng.choice([1, 2, 2, 2, 3, 3, 3, 3, 4, 4])
+    kind = 1 if k < 3 and rng.random() < .9 else rng.choice([1, 2, 2, 2, 3, 3, 3, 3, 3, 4, 4, 5, 5])
+    if kind in ENDS and not book.pending and rng.random() < .7:
+        kind = 3  # so that there is something to finish or cancel
+    if kind == 3 and len(book.opened) < 2 and rng.random() < .7:
+        kind = 1  # so that there is somewhere to begin
     here = sorted(book.opened) or [0]
     place = lambda: rng.choice(here) if rng.random() < .85 else some(rng, 6)
     if kind == 1:
@@ -52,8 +56,10 @@ def a_step(rng, book, k):
         return 2, place(), operation, 0, torn(rng, sheet(*field(rng, AMOUNT, amount_text(rng)), *field(rng, AUTHORIZED_BY, b"boss", .1)))
     if kind == 3:
         other = field(rng, TO_SUBJECT, b"Z") if rng.random() < .2 else ()
-        return 3, place(), place(), some(rng, 4, .04), torn(rng, sheet(*field(rng, AMOUNT, amount_text(rng)), *other))
-    return 4, 0, 0, rng.choice(sorted(book.pending)) if book.pending and rng.random() < .7 else some(rng, 4, .04), b""
+        source = place()
+        there = [p for p in here if p != source]
+        return 3, source, rng.choice(there) if there and rng.random() < .8 else place(), some(rng, 4, .04), torn(rng, sheet(*field(rng, AMOUNT, amount_text(rng)), *other))
+    return kind, 0, 0, rng.choice(sorted(book.pending)) if book.pending and rng.random() < .7 else some(rng, 4, .04), b""
 
 
 def a_session(rng):

@@ -9,10 +9,11 @@ FORMS = {  # what to write, for messages
     "act": "act PLACE OPERATION FIELD.., as: act 0 spend amount=3",
     "begin": "begin FROM TO TRANSFER FIELD.., as: begin 0 1 0 amount=5",
     "finish": "finish TRANSFER, as: finish 0",
+    "cancel": "cancel TRANSFER, as: cancel 0",
     "bytes": "bytes HEX, as: bytes 0100ff",
 }
 STEPS = {"open": (OPEN, ("the place",)), "act": (ACT, ("the place", "the operation")),
-         "begin": (BEGIN, ("the source", "the destination", "the transfer")), "finish": (FINISH, ("the transfer",))}
+         "begin": (BEGIN, ("the source", "the destination", "the transfer")), "finish": (FINISH, ("the transfer",)), "cancel": (CANCEL, ("the transfer",))}
 QUOTED = r'"(?:[^"\\]|\\["\\]|\\x[0-9a-fA-F]{2})*"'
 SPACE = re.compile(r"[ \t]*")
 WORD = re.compile(r'(?:[^ \t"]|%s)+' % QUOTED)
@@ -119,16 +120,16 @@ def fields(words):
 
 def entry(words):
     if words[0] not in STEPS:
-        raise Wrong("`%s` is no step; write unit, open, act, begin, finish or bytes at the start of the line" % words[0])
+        raise Wrong("`%s` is no step; write unit, open, act, begin, finish, cancel or bytes at the start of the line" % words[0])
     form = FORMS[words[0]]
     kind, wanted = STEPS[words[0]]
     given, rest = words[1:1 + len(wanted)], words[1 + len(wanted):]
     if len(given) < len(wanted):
         raise Wrong("%s is missing; write %s" % (wanted[len(given)], form))
     numbers = [operation(word, form) if what == "the operation" else number(word, what, form) for word, what in zip(given, wanted)]
-    if kind == FINISH:
+    if kind in ENDS:
         if rest:
-            raise Wrong("finish has no field; write %s" % form)
+            raise Wrong("%s has no field; write %s" % (words[0], form))
         return kind, 0, 0, numbers[0], b""
     return (kind, *(numbers + [0, 0])[:3], fields(rest))
 
@@ -200,8 +201,8 @@ def line_of(kind, a, b, t, body):
     """The line of a sound session's entry."""
     if kind == START:
         return "unit " + shown(body)
-    if kind == FINISH:
-        return "finish %d" % t
+    if kind in ENDS:
+        return "%s %d" % (KINDS[kind], t)
     words = {number: word for word, number in OPERATIONS.items()}
     head = {OPEN: ["open", a], ACT: ["act", a, words.get(b, b)], BEGIN: ["begin", a, b, t]}[kind]
     return " ".join([str(x) for x in head] + fields_shown(body))

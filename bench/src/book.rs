@@ -1,4 +1,4 @@
-//! Document 01's book, session and listing, written by hand from the document over `direct`: native 128-bit numbers,
+//! The book, session and listing of documents 01 and 02, written by hand from them over `direct`: native 128-bit numbers,
 //! the book altered in place, nothing allocated. The limit that the proved library is measured against.
 use crate::direct::{self, compare, plain, tests, Amount, Answer, Input, No, State, AMOUNT, BALANCE, SUBJECT, UNIT};
 use std::cmp::Ordering;
@@ -174,16 +174,27 @@ impl Book {
         Ok(None)
     }
 
-    fn finish_at(&mut self, t: u8) -> Result<(), No> {
+    // Frees the number of a transfer under way.
+    fn free(&mut self, t: u8) -> Result<Transfer, No> {
         if t > 7 {
             return Err(refused(22));
         }
         if self.pending >> t & 1 == 0 {
             return Err(refused(23));
         }
-        let transfer = std::mem::replace(&mut self.transfers[usize::from(t)], FREE);
-        self.places[usize::from(transfer.to)].balance.mantissa += transfer.amount.mantissa;
         self.pending &= !(1 << t);
+        Ok(std::mem::replace(&mut self.transfers[usize::from(t)], FREE))
+    }
+
+    fn finish_at(&mut self, t: u8) -> Result<(), No> {
+        let transfer = self.free(t)?;
+        self.places[usize::from(transfer.to)].balance.mantissa += transfer.amount.mantissa;
+        Ok(())
+    }
+
+    fn cancel_at(&mut self, t: u8) -> Result<(), No> {
+        let transfer = self.free(t)?;
+        self.places[usize::from(transfer.from)].balance.mantissa += transfer.amount.mantissa;
         Ok(())
     }
 
@@ -198,6 +209,9 @@ impl Book {
     }
     pub fn finish(&mut self, t: u8) -> Answer {
         answer(self.total().and_then(|_| self.finish_at(t)).map(|()| None))
+    }
+    pub fn cancel(&mut self, t: u8) -> Answer {
+        answer(self.total().and_then(|_| self.cancel_at(t)).map(|()| None))
     }
 }
 
@@ -238,7 +252,7 @@ fn is_sound(s: &[u8]) -> bool {
             1 => k > 0 && b == 0 && t == 0,
             2 => k > 0 && t == 0,
             3 => k > 0,
-            4 => k > 0 && a == 0 && b == 0 && word(row, 6) == 0,
+            4 | 5 => k > 0 && a == 0 && b == 0 && word(row, 6) == 0,
             _ => false,
         };
         if !fits || word(row, 4) != at {
@@ -265,7 +279,8 @@ pub fn run(s: &[u8]) -> Option<Run> {
             1 => r.book.open_at(total, a, sheet).map(|()| None),
             2 => r.book.act_at(total, a, b, sheet),
             3 => r.book.begin_at(a, b, t, sheet),
-            _ => r.book.finish_at(t).map(|()| None),
+            4 => r.book.finish_at(t).map(|()| None),
+            _ => r.book.cancel_at(t).map(|()| None),
         };
         if matches!(done, Ok(None)) {
             let after = r.book.places[usize::from(a & 15)].balance.mantissa;

@@ -281,6 +281,8 @@ cells! {
     begin_hand b { let a = b.hand.begin(black_box(4), black_box(5), black_box(3), &b.spending); b.took_hand(a); }
     finish_library b { let a = unsafe { credits_book_finish(&mut b.book, 1) }; b.took(a); }
     finish_hand b { let a = b.hand.finish(black_box(1)); b.took_hand(a); }
+    cancel_library b { let a = unsafe { credits_book_cancel(&mut b.book, 1) }; b.took(a); }
+    cancel_hand b { let a = b.hand.cancel(black_box(1)); b.took_hand(a); }
 
     run_library b { b.answered.2 = black_box(unsafe { credits_session_run(b.session.as_ptr(), b.session.len() as u64) }).count; }
     run_hand b { b.answered.2 = black_box(book::run(&b.session)).map_or(0, |r| r.count as u16); }

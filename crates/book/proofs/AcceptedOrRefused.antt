@@ -22,7 +22,7 @@ use Rattle.profiles.specs.Balance.{balanceRules}
 use Rattle.book.specs.Sets.{bit, entry}
 use Rattle.book.specs.Refusals.{bookAnswerOf}
 use Rattle.book.specs.Book.{wholeAmount, nameBytes, nameOf, blankName, blankPlace, blankTransfer, placeRecord, transferRecord, placeAt, transferAt, balances, creditsUnderWay, total, nameOk, wellFormed, setSubject, setBalance, setUnit, setPlaces}
-use Rattle.book.specs.Steps.{Step, Open, Act, Begin, Finish, creditsIn, bytesIn, adds, acts, doing, testsOpen, testsAct, testsBegin, testsFinish, seen, answer}
+use Rattle.book.specs.Steps.{Step, Open, Act, Begin, Finish, Cancel, creditsIn, bytesIn, adds, acts, doing, testsOpen, testsAct, testsBegin, testsFinish, seen, answer}
 use Rattle.book.specs.declared.Name.{Name}
 use Rattle.book.specs.declared.Place.{Place}
 use Rattle.book.specs.declared.Book.{Book}
@@ -155,6 +155,9 @@ beginning =
 abbrev finishing : List Row
 finishing = row (Finish 2) 0 0 ∷ row (Finish 8) 22 0 ∷ row (Finish 0) 23 0 ∷ []
 
+abbrev cancelling : List Row
+cancelling = row (Cancel 2) 0 0 ∷ row (Cancel 8) 22 0 ∷ row (Cancel 0) 23 0 ∷ []
+
 -- ---- books that meet 28
 
 -- names of no bytes and of 33; an amount of scale 1
@@ -203,11 +206,12 @@ on-full =
     ∷ row (Act 0 18 (asking 51)) 0 0
     ∷ row (Begin 0 1 0 (asking 51)) 0 0
     ∷ row (Finish 2) 0 0
+    ∷ row (Cancel 2) 0 0
     ∷ []
 
 -- 28 comes before any other
 abbrev on-bad : List Row
-on-bad = row (Open 16 torn) 28 0 ∷ row (Act 16 0 torn) 28 0 ∷ row (Begin 16 16 8 torn) 28 0 ∷ row (Finish 8) 28 0 ∷ []
+on-bad = row (Open 16 torn) 28 0 ∷ row (Act 16 0 torn) 28 0 ∷ row (Begin 16 16 8 torn) 28 0 ∷ row (Finish 8) 28 0 ∷ row (Cancel 8) 28 0 ∷ []
 
 -- ---- computed
 
@@ -217,11 +221,12 @@ said-by a = record { number = a .number; detail = a .detail }
 abbrev Answers : Book → List Row → Type 0
 Answers b rows = map (λ r. said-by (bookAnswerOf (answer b (r .step)))) rows ≡ map (λ r. r .said) rows
 
-pub answered : Answers second-left opens × Answers second-left acting × Answers second-left beginning × Answers second-left finishing
+pub answered : Answers second-left opens × Answers second-left acting × Answers second-left beginning × Answers second-left finishing × Answers second-left cancelling
     × Answers full-book on-full × Answers (with-transfer 0 0 1 tenth) on-bad
     × (answer second-left (Begin 0 1 0 (asking 51)) ≡ Accepted) × (answer second-left (Finish 2) ≡ Accepted)
+    × (answer second-left (Cancel 2) ≡ Accepted)
 unfolding val limit halves orderOf allDigits digitsAfter decimal amountIf readOf compareOf zeros every sum prior entryAt entriesFrom lookup soundAs field encode textIn bytesOf marked parsed amountBy amountOf stateAbsent stateThere aboveZero heldBy balanceRules bit entry nameBytes nameOf blankName blankPlace blankTransfer placeRecord transferRecord placeAt transferAt balances creditsUnderWay total nameOk wellFormed creditsIn bytesIn adds acts doing testsOpen testsAct testsBegin testsFinish seen answer
-answered = (refl, refl, refl, refl, refl, refl, refl, refl)
+answered = (refl, refl, refl, refl, refl, refl, refl, refl, refl, refl)
 
 pub bad : map wellFormed bad-books ≡ replicate 12 false
 unfolding val limit halves zeros every sum bit entry nameOf blankName blankPlace blankTransfer placeRecord transferRecord placeAt transferAt balances creditsUnderWay total nameOk wellFormed

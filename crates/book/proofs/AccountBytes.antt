@@ -1,7 +1,7 @@
 -- What an accepted step does to an account, in bytes: what apply writes for the account's sheet, and credit for the destination's, is the
 -- account's sheet after the step.
 use mathlib.Core.Path.{_≡_, refl, sym, ap, _∙_}
-use mathlib.Core.Bool.{true, false}
+use mathlib.Core.Bool.{Bool, true, false, not}
 use mathlib.Core.Option.{some, none}
 use mathlib.Core.List.{List, [], _∷_}
 use Prim.Native.Nat.{ℕ, _+_, _-_, _^_, _<_}
@@ -34,7 +34,7 @@ use Rattle.transition.specs.Credit.{creditOf}
 use Rattle.transition.specs.Written.{bufferAfter}
 use Rattle.book.specs.Places.{putField}
 use Rattle.book.specs.Book.{credits, wholeAmount, nameBytes, nameOf, noPlace, noTransfer, blankTransfer, placeRecord, transferRecord, placeAt, transferAt, isSome, transferOk, openPlace, setRecord, setCredits, setTransfer}
-use Rattle.book.specs.Steps.{Open, Act, Begin, Finish, creditsIn, bytesIn, changed, heldAt, seen, answer, next}
+use Rattle.book.specs.Steps.{Open, Act, Begin, Finish, Cancel, creditsIn, bytesIn, changed, heldAt, seen, answer, next}
 use Rattle.book.specs.declared.Place.{Place}
 use Rattle.book.specs.declared.Transfer.{Transfer}
 use Rattle.book.specs.declared.Book.{Book}
@@ -44,11 +44,12 @@ use Rattle.book.proofs.AcceptedOrRefused.{answered}
 use Rattle.book.proofs.Tables.{entry-drop}
 use Rattle.book.proofs.Names.{name-bytes}
 use Rattle.book.proofs.Formed.{Formed, formed}
-use Rattle.book.proofs.Views.{transfer-raw, open-lt, home-open}
-use Rattle.book.proofs.Facts.{accepted-tests, Opens, opens, Acts, acts-so, Begins, begins, Finishes, finishes}
+use Rattle.book.proofs.Views.{open-lt}
+use Rattle.book.proofs.Facts.{accepted-tests, Opens, opens, Acts, acts-so, Begins, begins}
 use Rattle.book.proofs.Invariant.{view-there}
 use Rattle.book.proofs.Whole.{next-accepted}
-use Rattle.book.proofs.Applies.{Named, made, open-there, transfer-there, open-is-apply, act-is-apply, begin-is-apply, finish-is-credit}
+use Rattle.book.proofs.Applies.{Named, made, open-there, open-is-apply, act-is-apply, begin-is-apply, end-is-credit}
+use Rattle.book.proofs.Endings.{ending, end, Ended, ended}
 use Rattle.book.proofs.Accounts.{seen-next, no-sheet, closed-seen, sheetAt, account-fields, account-sound, account-seen, sheet-is-input, of-balances, SentTo, sent-is, same-bytes}
 
 -- ---- what is written, and the account afterwards
@@ -128,51 +129,52 @@ begin-writes-its-sheet b i f g t size named sized h sent its-fields its-layout o
     rw (next-accepted b (Begin f g t i) h, transfer-apart (setCredits b f (heldAt b f - creditsIn amount i)) t 1 _ f)
     (applied b w f (k .low-from) (open-there b f (k .from-here)) sized size 15 refl sent its-layout (heldAt b f - creditsIn amount i) makes old)
 
--- Credit, by the source's and the destination's sheet, writes the destination's sheet after an accepted finish.
--- Premises: 16 places, `opened` of 16 bits, and the destination's names of 32 bytes, as every book has that code holds; both balances are of
--- two 64-bit halves; the step is accepted; `sent` is a sound input whose to_subject is the destination's subject and whose amount is read as
+-- Credit, by the sheets of both ends, writes the sheet of the end where the credits land after an accepted finish or cancel.
+-- Premises: 16 places, `opened` of 16 bits, and that end's names of 32 bytes, as every book has that code holds; both balances are of
+-- two 64-bit halves; the step is accepted; `sent` is a sound input whose to_subject is that end's subject and whose amount is read as
 -- the transfer's.
-pub finish-writes-its-sheet : (b : Book) (t : ℕ) → length (b .places) ≡ 16 → b .opened < 2 ^ 16 → Named b (transferRecord b t .to)
-    → Sized (placeRecord b (transferRecord b t .from) .balance) → Sized (placeRecord b (transferRecord b t .to) .balance) → answer b (Finish t) ≡ Accepted
-    → (sent : List ℕ) → verdictOf Input sent ≡ Verdict.Sound → field sent to-subject ≡ text (nameBytes (placeRecord b (transferRecord b t .to) .subject))
+pub end-writes-its-sheet : (b : Book) (t : ℕ) (back : Bool) → length (b .places) ≡ 16 → b .opened < 2 ^ 16 → Named b (end b t back)
+    → ((k : Bool) → Sized (placeRecord b (end b t k) .balance)) → answer b (ending t back) ≡ Accepted
+    → (sent : List ℕ) → verdictOf Input sent ≡ Verdict.Sound → field sent to-subject ≡ text (nameBytes (placeRecord b (end b t back) .subject))
     → amountIn amount (field sent amount) ≡ Given (transferRecord b t .amount)
-    → (old : List ℕ) → bufferAfter (creditOf 15 (sheetAt b (transferRecord b t .from)) (sheetAt b (transferRecord b t .to)) sent) (sheetAt b (transferRecord b t .from)) sent old
-    ≡ putInto (sheetAt (next b (Finish t)) (transferRecord b t .to)) old
+    → (old : List ℕ) → bufferAfter (creditOf 15 (sheetAt b (end b t (not back))) (sheetAt b (end b t back)) sent) (sheetAt b (end b t (not back))) sent old
+    ≡ putInto (sheetAt (next b (ending t back)) (end b t back)) old
 unfolding creditOf bytesOf
-finish-writes-its-sheet b t size few named sized-from sized-to h sent its-layout its-subject its-amount old =
-    let w : Formed b = formed b (accepted-tests b (Finish t) h .0) in
-    let k : Finishes (seen b) t = finishes (seen b) t (accepted-tests b (Finish t) h .1) in
-    let f : ℕ = transferRecord b t .from in
-    let g : ℕ = transferRecord b t .to in
-    let ok : transferOk b (some (transferRecord b t)) ≡ true = rw (transfer-raw b t (transfer-there b t (k .moving)) .1) at (w .transfers t (k .low)) in
-    let here-f : isSome (placeAt b f) ≡ true = home-open b (transferRecord b t) true ok in
-    let here-g : isSome (placeAt b g) ≡ true = home-open b (transferRecord b t) false ok in
+end-writes-its-sheet b t back size few named sized h sent its-layout its-subject its-amount old =
+    let d : Ended b t back = ended b t back h in
+    let f : ℕ = end b t (not back) in
+    let g : ℕ = end b t back in
+    let here-f : isSome (placeAt b f) ≡ true = d .here (not back) in
+    let here-g : isSome (placeAt b g) ≡ true = d .here back in
     let low-f : f < 16 = open-lt b few f here-f in
     let low-g : g < 16 = open-lt b few g here-g in
     let n : ℕ = heldAt b g + credits (transferRecord b t .amount) in
     let makes : creditOf 15 (sheetAt b f) (sheetAt b g) sent ≡ made (Part.Input to-subject) (Part.State unit) (wholeAmount n) =
-    rw (account-sound b w f low-f here-f sized-from 1, account-sound b w g low-g here-g sized-to 2, its-layout)
-    (rw (account-seen b w f low-f here-f sized-from, account-seen b w g low-g here-g sized-to) (finish-is-credit b t (field sent) few named h its-subject its-amount)) in
+    rw (account-sound b (d .form) f low-f here-f (sized (not back)) 1, account-sound b (d .form) g low-g here-g (sized back) 2, its-layout)
+    (rw (account-seen b (d .form) f low-f here-f (sized (not back)), account-seen b (d .form) g low-g here-g (sized back)) (end-is-credit b t back (field sent) few named h its-subject its-amount)) in
     written (creditOf 15 (sheetAt b f) (sheetAt b g) sent) (sheetAt b f) sent (Part.Input to-subject) (Part.State unit) (wholeAmount n) old makes
     ∙ ap (λ (x : List ℕ). putInto x old)
-    (rw (its-subject, account-fields b w f low-f here-f sized-from unit, next-accepted b (Finish t) h, transfer-apart (setCredits b g n) t 0 blankTransfer g) (sym (credits-set b g n size low-g)))
+    (rw (its-subject, account-fields b (d .form) f low-f here-f (sized (not back)) unit, d .left, transfer-apart (setCredits b g n) t 0 blankTransfer g) (sym (credits-set b g n size low-g)))
 
--- The record of a finished transfer is zeros, and its number is free again. Premises: 8 transfers; the step is accepted.
-pub finished-is-zeros : (b : Book) (t : ℕ) → length (b .transfers) ≡ 8 → answer b (Finish t) ≡ Accepted
-    → (transferRecord (next b (Finish t)) t ≡ blankTransfer) × (transferAt (next b (Finish t)) t ≡ none)
+-- The record of a finished or cancelled transfer is zeros, and its number is free again. Premises: 8 transfers; the step is accepted.
+pub ended-is-zeros : (b : Book) (t : ℕ) (back : Bool) → length (b .transfers) ≡ 8 → answer b (ending t back) ≡ Accepted
+    → (transferRecord (next b (ending t back)) t ≡ blankTransfer) × (transferAt (next b (ending t back)) t ≡ none)
 unfolding transferRecord transferAt setRecord setTransfer
-finished-is-zeros b t size h =
-    let k : Finishes (seen b) t = finishes (seen b) t (accepted-tests b (Finish t) h .1) in (
-      rw (next-accepted b (Finish t) h) (getD-set-same (b .transfers) t blankTransfer noTransfer (rw size (k .low))),
-      rw (next-accepted b (Finish t) h) (entry-drop noTransfer (b .pending) (b .transfers) t blankTransfer .there),
+ended-is-zeros b t back size h =
+    let d : Ended b t back = ended b t back h in (
+      rw (d .left) (getD-set-same (b .transfers) t blankTransfer noTransfer (rw size (d .facts .low))),
+      rw (d .left) (entry-drop noTransfer (b .pending) (b .transfers) t blankTransfer .there),
     )
 
--- ---- the premises of begin and finish can be met: the book that the second worked session leaves, in which `N1` holds 3 and `N2` holds 9,
+-- ---- the premises of begin, finish and cancel can be met: the book that the second worked session leaves, in which `N1` holds 3 and `N2` holds 9,
 -- and 6 are on their way from `N1` to `N2`
 
--- an amount of one digit, and to_subject `N2`
+-- an amount of one digit, and to_subject `N` and a digit
+abbrev sending : ℕ → ℕ → List ℕ
+sending digit name = encode (item 7 1 (digit ∷ []) ∷ item 8 1 (78 ∷ name ∷ []) ∷ [])
+
 abbrev to-second : ℕ → List ℕ
-to-second digit = encode (item 7 1 (digit ∷ []) ∷ item 8 1 (78 ∷ 50 ∷ []) ∷ [])
+to-second digit = sending digit 50
 
 to-second-fields : SentTo second-left 1 (asking 51) (to-second 51)
 unfolding field lookup entriesFrom entryAt encode placeRecord nameBytes nameOf zeros
@@ -191,22 +193,36 @@ sized : (Sized (placeRecord second-left 0 .balance)) × (Sized (placeRecord seco
 unfolding placeRecord halves
 sized = (record { lo = omega arith; hi = omega arith }, record { lo = omega arith; hi = omega arith })
 
-layouts : (verdictOf Input (to-second 51) ≡ Verdict.Sound) × (verdictOf Input (to-second 54) ≡ Verdict.Sound)
-unfolding soundAs every sum prior entryAt encode
-layouts = (refl, refl)
+sized-ends : (k : Bool) → Sized (placeRecord second-left (end second-left 2 k) .balance)
+unfolding transferRecord
+sized-ends true = sized .0
+sized-ends false = sized .1
 
-carried : (field (to-second 54) to-subject ≡ text (nameBytes (placeRecord second-left 1 .subject)))
-    × (amountIn amount (field (to-second 54) amount) ≡ Given (wholeAmount 6))
-unfolding field lookup entriesFrom entryAt encode placeRecord nameBytes nameOf zeros limit allDigits digitsAfter decimal amountIf readOf marked parsed amountBy
-carried = (refl, refl)
+layouts : (verdictOf Input (to-second 51) ≡ Verdict.Sound) × (verdictOf Input (to-second 54) ≡ Verdict.Sound) × (verdictOf Input (sending 54 49) ≡ Verdict.Sound)
+unfolding soundAs every sum prior entryAt encode
+layouts = (refl, refl, refl)
+
+-- 6 to the subject of a place
+Carries : ℕ → List ℕ → Type 0
+Carries p sent = (field sent to-subject ≡ text (nameBytes (placeRecord second-left p .subject))) × (amountIn amount (field sent amount) ≡ Given (wholeAmount 6))
+
+carried : Carries 1 (to-second 54) × Carries 0 (sending 54 49)
+unfolding Carries field lookup entriesFrom entryAt encode placeRecord nameBytes nameOf zeros limit allDigits digitsAfter decimal amountIf readOf marked parsed amountBy
+carried = ((refl, refl), (refl, refl))
 
 -- the begin of 3 more by `N1`
 pub begin-writes-worked : (old : List ℕ)
     → bufferAfter (nextOf 2 15 (sheetAt second-left 0) (to-second 51)) (sheetAt second-left 0) (to-second 51) old ≡ putInto (sheetAt (next second-left (Begin 0 1 0 (asking 51))) 0) old
-begin-writes-worked = begin-writes-its-sheet second-left (asking 51) 0 1 0 refl (named .0) (sized .0) (answered .6) (to-second 51) to-second-fields (layouts .0)
+begin-writes-worked = begin-writes-its-sheet second-left (asking 51) 0 1 0 refl (named .0) (sized .0) (answered .7) (to-second 51) to-second-fields (layouts .0)
 
 -- the finish of the 6
 pub finish-writes-worked : (old : List ℕ)
     → bufferAfter (creditOf 15 (sheetAt second-left 0) (sheetAt second-left 1) (to-second 54)) (sheetAt second-left 0) (to-second 54) old ≡ putInto (sheetAt (next second-left (Finish 2)) 1) old
-unfolding transferRecord
-finish-writes-worked = finish-writes-its-sheet second-left 2 refl (omega arith) (named .1) (sized .0) (sized .1) (answered .7) (to-second 54) (layouts .1) (carried .0) (carried .1)
+unfolding transferRecord Carries
+finish-writes-worked = end-writes-its-sheet second-left 2 false refl (omega arith) (named .1) sized-ends (answered .8) (to-second 54) (layouts .1) (carried .0 .0) (carried .0 .1)
+
+-- their cancel
+pub cancel-writes-worked : (old : List ℕ)
+    → bufferAfter (creditOf 15 (sheetAt second-left 1) (sheetAt second-left 0) (sending 54 49)) (sheetAt second-left 1) (sending 54 49) old ≡ putInto (sheetAt (next second-left (Cancel 2)) 0) old
+unfolding transferRecord Carries
+cancel-writes-worked = end-writes-its-sheet second-left 2 true refl (omega arith) (named .0) sized-ends (answered .9) (sending 54 49) (layouts .2) (carried .1 .0) (carried .1 .1)

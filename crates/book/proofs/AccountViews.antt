@@ -1,7 +1,7 @@
 -- Demand 2, "Each book step is those rules, on one account or a pair", of what a step does: after an accepted step its account is seen as
 -- what apply makes of the account as it was seen before, and the destination of a finish as what credit makes.
 use mathlib.Core.Path.{_≡_, refl, _∙_}
-use mathlib.Core.Bool.{true, false}
+use mathlib.Core.Bool.{Bool, true, not}
 use mathlib.Core.Option.{some}
 use mathlib.Core.List.{List}
 use Prim.Native.Nat.{ℕ, _+_, _-_, _^_, _<_}
@@ -21,18 +21,19 @@ use Rattle.resource_state.specs.declared.Next.the-variants as Next
 use Rattle.transition.specs.Credit.{creditBy}
 use Rattle.book.specs.Places.{placeView}
 use Rattle.book.specs.Book.{credits, wholeAmount, nameBytes, noPlace, placeRecord, transferRecord, placeAt, isSome, transferOk, openPlace, setRecord, setCredits, setTransfer}
-use Rattle.book.specs.Steps.{Open, Act, Begin, Finish, creditsIn, bytesIn, changed, heldAt, sentTo, seen, answer, next}
+use Rattle.book.specs.Steps.{Open, Act, Begin, creditsIn, bytesIn, changed, heldAt, sentTo, seen, answer, next}
 use Rattle.book.specs.declared.Place.{Place}
 use Rattle.book.specs.declared.Transfer.{Transfer}
 use Rattle.book.specs.declared.Book.{Book}
 use Rattle.book.specs.declared.error.BookOutcome.the-variants.{Accepted}
 use Rattle.book.proofs.Tables.{entry-put, entry-set}
 use Rattle.book.proofs.Names.{name-bytes}
-use Rattle.book.proofs.Facts.{accepted-tests, Opens, opens, Acts, acts-so, Begins, begins, Finishes, finishes}
+use Rattle.book.proofs.Facts.{accepted-tests, Opens, opens, Acts, acts-so, Begins, begins}
 use Rattle.book.proofs.Formed.{Formed, formed}
 use Rattle.book.proofs.Views.{place-raw, transfer-raw, open-lt, home-open}
 use Rattle.book.proofs.Whole.{next-accepted}
-use Rattle.book.proofs.Applies.{Named, made, open-there, transfer-there, view-is, open-is-apply, act-is-apply, begin-is-apply, finish-is-credit}
+use Rattle.book.proofs.Applies.{Named, made, open-there, view-is, open-is-apply, act-is-apply, begin-is-apply, end-is-credit}
+use Rattle.book.proofs.Endings.{ending, end, Ended, ended}
 use Rattle.book.proofs.Accounts.{same-bytes}
 
 -- n is a balance state, and v shows it: its texts are those of a state and of an input
@@ -99,20 +100,16 @@ begin-seen b f g t i size named h =
     seen-as _ _ _ _ (State subject) (State unit) (wholeAmount (heldAt b f - creditsIn amount i)) (begin-is-apply b f g t i named h)
     (rw (next-accepted b (Begin f g t i) h, transfer-unseen (setCredits b f (heldAt b f - creditsIn amount i)) t 1 _ f, subject-seen b f here (sentTo (seen b) g i), unit-seen b f here (sentTo (seen b) g i)) (set-view b f _ size (k .low-from) here))
 
--- After a finish the destination is seen as what credit makes of both ends, by an input whose to_subject is the destination's subject and whose
--- amount is the transfer's. Premises: as of act-seen, of the destination; `opened` of 16 bits.
-pub finish-seen : (b : Book) (t : ℕ) (inp : ℕ → Field) → length (b .places) ≡ 16 → b .opened < 2 ^ 16 → Named b (transferRecord b t .to) → answer b (Finish t) ≡ Accepted
-    → inp to-subject ≡ text (nameBytes (placeRecord b (transferRecord b t .to) .subject)) → amountIn amount (inp amount) ≡ Given (transferRecord b t .amount)
-    → SeenAs (creditBy amountIn (seen b .place (transferRecord b t .from)) (seen b .place (transferRecord b t .to)) inp 15) (seen b .place (transferRecord b t .from) .at) inp
-    (seen (next b (Finish t)) .place (transferRecord b t .to))
+-- After a finish or a cancel the end where the credits land is seen as what credit makes of both, by an input whose to_subject is that end's
+-- subject and whose amount is the transfer's. Premises: as of act-seen, of that end; `opened` of 16 bits.
+pub end-seen : (b : Book) (t : ℕ) (back : Bool) (inp : ℕ → Field) → length (b .places) ≡ 16 → b .opened < 2 ^ 16 → Named b (end b t back) → answer b (ending t back) ≡ Accepted
+    → inp to-subject ≡ text (nameBytes (placeRecord b (end b t back) .subject)) → amountIn amount (inp amount) ≡ Given (transferRecord b t .amount)
+    → SeenAs (creditBy amountIn (seen b .place (end b t (not back))) (seen b .place (end b t back)) inp 15) (seen b .place (end b t (not back)) .at) inp
+    (seen (next b (ending t back)) .place (end b t back))
 unfolding bytesOf
-finish-seen b t inp size few named h its-subject its-amount =
-    let w : Formed b = formed b (accepted-tests b (Finish t) h .0) in
-    let k : Finishes (seen b) t = finishes (seen b) t (accepted-tests b (Finish t) h .1) in
-    let g : ℕ = transferRecord b t .to in
-    let ok : transferOk b (some (transferRecord b t)) ≡ true = rw (transfer-raw b t (transfer-there b t (k .moving)) .1) at (w .transfers t (k .low)) in
-    let here-f = home-open b (transferRecord b t) true ok in
-    let here-g = home-open b (transferRecord b t) false ok in
-    let n : ℕ = heldAt b g + credits (transferRecord b t .amount) in
-    seen-as _ _ _ _ (Input to-subject) (State unit) (wholeAmount n) (finish-is-credit b t inp few named h its-subject its-amount)
-    (rw (next-accepted b (Finish t) h, transfer-unseen (setCredits b g n) t 0 _ g, its-subject, unit-seen b (transferRecord b t .from) here-f inp) (set-view b g n size (open-lt b few g here-g) here-g))
+end-seen b t back inp size few named h its-subject its-amount =
+    let d : Ended b t back = ended b t back h in
+    let p : ℕ = end b t back in
+    let n : ℕ = heldAt b p + credits (transferRecord b t .amount) in
+    seen-as _ _ _ _ (Input to-subject) (State unit) (wholeAmount n) (end-is-credit b t back inp few named h its-subject its-amount)
+    (rw (d .left, transfer-unseen (setCredits b p n) t 0 _ p, its-subject, unit-seen b (end b t (not back)) (d .here (not back)) inp) (set-view b p n size (open-lt b few p (d .here back)) (d .here back)))

@@ -67,7 +67,7 @@ unfolding seen plainSeen plainAnswer creditsIn testsAct
 keptAct b l p o i d v t =
     record {
       inv = both .inv;
-      plain =
+      plain = λ _.
           follow (testsAct (seen b) p o i) (testsAct (plainSeen u l) p o i)
           (same, (λ _. rw there, (same, (same, (λ _. ap said checks, (after-same k (seen b) (plainSeen u l) p n (v .sums), tt)))))) t;
       unit = same-unit (both .set .others);

@@ -18,7 +18,7 @@ use Rattle.registry.proofs.Words as profile
 use Rattle.profiles.specs.Balance.{balanceRules}
 use Rattle.book.specs.Sets.{withBit, entry}
 use Rattle.book.specs.Book.{nameBytes, noPlace, noTransfer, placeRecord, placeAt, transferRecord, transferAt, total, isSome, wellFormed, openPlace, setRecord, setTransfer}
-use Rattle.book.specs.Steps.{Step, Open, Act, Begin, Finish, creditsIn, bytesIn, adds, doing, acts, said, sameBytes, afterCheck, sheetSound, sentTo, testsOpen, testsAct, testsBegin, seen, answer, effect, next}
+use Rattle.book.specs.Steps.{Step, Open, Act, Begin, Finish, Cancel, creditsIn, bytesIn, adds, doing, acts, said, sameBytes, afterCheck, sheetSound, sentTo, testsOpen, testsAct, testsBegin, seen, answer, effect, next}
 use Rattle.book.specs.Refusals.{bookRefusalOf, bookAnswerOf}
 use Rattle.book.specs.declared.Book.{Book}
 use Rattle.book.specs.declared.error.BookError.{BookError}
@@ -125,12 +125,14 @@ accountOf b (Open p i) = p
 accountOf b (Act p o i) = p
 accountOf b (Begin f g t i) = f
 accountOf b (Finish t) = transferRecord b t .to
+accountOf b (Cancel t) = transferRecord b t .from
 
 abbrev pub Names : Step → ℕ → Type 0
 Names (Open p i) q = ⊥
 Names (Act p o i) q = ⊥
 Names (Begin f g t i) q = q ≡ t
 Names (Finish t) q = q ≡ t
+Names (Cancel t) q = q ≡ t
 
 module _ {A : Type 0} (d : A) (n : ℕ) (l : List A) (p : ℕ) (x : A) (q : ℕ) (apart : q ≢ p) where
   set-elsewhere : (entry d n (set l p x) q ≡ entry d n l q) × (getD (set l p x) q d ≡ getD l q d)
@@ -155,6 +157,7 @@ module _ (b : Book) (q : ℕ) where
   place-kept (Act p o i) h = set-elsewhere noPlace (b .opened) (b .places) p _ q h
   place-kept (Begin f g t i) h = set-elsewhere noPlace (b .opened) (b .places) f _ q h
   place-kept (Finish t) h = set-elsewhere noPlace (b .opened) (b .places) (transferRecord b t .to) _ q h
+  place-kept (Cancel t) h = set-elsewhere noPlace (b .opened) (b .places) (transferRecord b t .from) _ q h
 
   transfer-kept : (s : Step) → (Names s q → ⊥) → SameTransfer b (effect b s) q
   unfolding transferAt transferRecord openPlace setRecord setTransfer
@@ -162,6 +165,7 @@ module _ (b : Book) (q : ℕ) where
   transfer-kept (Act p o i) h = (refl, refl)
   transfer-kept (Begin f g t i) h = put-elsewhere noTransfer (b .pending) (b .transfers) t _ q h 1 (omega arith)
   transfer-kept (Finish t) h = put-elsewhere noTransfer (b .pending) (b .transfers) t _ q h 0 (omega arith)
+  transfer-kept (Cancel t) h = put-elsewhere noTransfer (b .pending) (b .transfers) t _ q h 0 (omega arith)
 
   module _ (s : Step) where
     -- every other place is as it was, closed or not
@@ -191,6 +195,7 @@ module _ (b : Book) (q : ℕ) where
         kept (Act p o i) = refl
         kept (Begin f g t i) = refl
         kept (Finish t) = refl
+        kept (Cancel t) = refl
 
         go : (o : BookOutcome) → answer b s ≡ o → next b s .unit ≡ b .unit
         go Accepted e = rw e (kept s)

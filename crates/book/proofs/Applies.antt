@@ -1,7 +1,7 @@
 -- The effect of an accepted step is theirs: the balance after open, act and begin is what apply writes at the place's view, and
 -- after finish what credit writes. So 12, 13, 17, 18 and 20 never arise in a step.
 use mathlib.Core.Path.{_≡_, refl, sym, _∙_}
-use mathlib.Core.Bool.{Bool, true, false, cond}
+use mathlib.Core.Bool.{Bool, true, false, not, cond}
 use mathlib.Core.Option.{some, none}
 use mathlib.Core.List.{List, [], _∷_}
 use Prim.Native.Nat.{ℕ, _+_, _-_, _^_, _<_, _≤_}
@@ -30,17 +30,18 @@ use Rattle.resource_state.specs.declared.Part.the-variants.{State, Input}
 use Rattle.resource_state.specs.declared.Next.{Next}
 use Rattle.resource_state.specs.declared.Next.the-variants as Next
 use Rattle.book.specs.Book.{credits, wholeAmount, nameBytes, nameOk, placeRecord, transferRecord, placeAt, transferAt, isSome, transferOk}
-use Rattle.book.specs.Steps.{Open, Act, Begin, Finish, creditsIn, adds, acts, changed, seen, sentTo, heldAt, answer}
+use Rattle.book.specs.Steps.{Open, Act, Begin, creditsIn, adds, acts, changed, seen, sentTo, heldAt, answer}
 use Rattle.book.specs.declared.Name.{Name}
 use Rattle.book.specs.declared.Transfer.{Transfer}
 use Rattle.book.specs.declared.Book.{Book}
 use Rattle.book.specs.declared.error.BookOutcome.the-variants.{Accepted}
 use Rattle.book.proofs.Rows.{refused-never, among-all}
-use Rattle.book.proofs.Facts.{accepted-tests, Opens, opens, Acts, acts-so, Begins, begins, Finishes, finishes}
+use Rattle.book.proofs.Facts.{accepted-tests, Opens, opens, Acts, acts-so, Begins, begins}
 use Rattle.book.proofs.Formed.{Formed, formed, and-l, and-r}
-use Rattle.book.proofs.Views.{place-raw, transfer-raw, open-lt, home-open}
+use Rattle.book.proofs.Views.{place-raw, open-lt}
 use Rattle.book.proofs.Invariant.{view-there, is-none}
-use Rattle.book.proofs.Effects.{asked, open-stores, act-adds, act-takes, begin-takes, finish-adds}
+use Rattle.book.proofs.Effects.{asked, open-stores, act-adds, act-takes, begin-takes, end-adds}
+use Rattle.book.proofs.Endings.{ending, end, Ended, ended}
 
 -- a balance state with these texts and this amount
 abbrev pub made : Part → Part → Amount → Next
@@ -131,10 +132,6 @@ pub open-there : (b : Book) (p : ℕ) → seen b .place p .there ≡ true → is
 unfolding seen
 open-there b p h = sym (view-there (nameBytes (b .unit)) (placeAt b p)) ∙ h
 
-pub transfer-there : (b : Book) (t : ℕ) → seen b .busy t ≡ true → isSome (transferAt b t) ≡ true
-unfolding seen
-transfer-there b t h = h
-
 pub view-is : (b : Book) (p : ℕ) → isSome (placeAt b p) ≡ true → seen b .place p ≡ placeView (nameBytes (placeRecord b p .subject)) (nameBytes (b .unit)) (placeRecord b p .balance)
 unfolding seen
 view-is b p here = rw (place-raw b p here .1)
@@ -184,26 +181,23 @@ begin-is-apply b f g t i n h =
     rw v
     (transfer-applied s u (placeRecord b f .balance) (sentTo (seen b) g i) (subject-there b w f (k .low-from) here n) (unit-there b w f (k .low-from) here n) (asked amount i) (read .1) (read .0) _ (begin-takes b f g t i h))
 
--- finish: what credit makes of the destination, by an input whose to_subject is the destination's subject and whose amount is the transfer's
-pub finish-is-credit : (b : Book) (t : ℕ) (inp : ℕ → Field) → b .opened < 2 ^ 16 → Named b (transferRecord b t .to) → answer b (Finish t) ≡ Accepted
-    → inp to-subject ≡ text (nameBytes (placeRecord b (transferRecord b t .to) .subject)) → amountIn amount (inp amount) ≡ Given (transferRecord b t .amount)
-    → creditBy amountIn (seen b .place (transferRecord b t .from)) (seen b .place (transferRecord b t .to)) inp 15
-    ≡ made (Input to-subject) (State unit) (wholeAmount (heldAt b (transferRecord b t .to) + credits (transferRecord b t .amount)))
+-- finish and cancel: what credit makes of the end where the credits land, by an input whose to_subject is that end's subject and whose amount
+-- is the transfer's. The other end is its source: a cancel is the transfer turned round
+pub end-is-credit : (b : Book) (t : ℕ) (back : Bool) (inp : ℕ → Field) → b .opened < 2 ^ 16 → Named b (end b t back) → answer b (ending t back) ≡ Accepted
+    → inp to-subject ≡ text (nameBytes (placeRecord b (end b t back) .subject)) → amountIn amount (inp amount) ≡ Given (transferRecord b t .amount)
+    → creditBy amountIn (seen b .place (end b t (not back))) (seen b .place (end b t back)) inp 15
+    ≡ made (Input to-subject) (State unit) (wholeAmount (heldAt b (end b t back) + credits (transferRecord b t .amount)))
 unfolding creditBy stateThere textIn textOf amountOf
-finish-is-credit b t inp s n h e a =
-    let w : Formed b = formed b (accepted-tests b (Finish t) h .0) in
-    let k : Finishes (seen b) t = finishes (seen b) t (accepted-tests b (Finish t) h .1) in
-    let r : Transfer = transferRecord b t in
-    let ok : transferOk b (some r) ≡ true = rw (transfer-raw b t (transfer-there b t (k .moving)) .1) at (w .transfers t (k .low)) in
-    let from-here : isSome (placeAt b (r .from)) ≡ true = home-open b r true ok in
-    let to-here : isSome (placeAt b (r .to)) ≡ true = home-open b r false ok in
-    let low : r .to < 16 = open-lt b s (r .to) to-here in
+end-is-credit b t back inp s n h e a =
+    let d : Ended b t back = ended b t back h in
+    let p : ℕ = end b t back in
+    let low : p < 16 = open-lt b s p (d .here back) in
     rw (
-      view-is b (r .from) from-here,
-      view-is b (r .to) to-here,
+      view-is b (end b t (not back)) (d .here (not back)),
+      view-is b p (d .here back),
       e,
-      full (nameBytes (placeRecord b (r .to) .subject)) (subject-there b w (r .to) low to-here n),
-      full (nameBytes (b .unit)) (unit-there b w (r .to) low to-here n),
+      full (nameBytes (placeRecord b p .subject)) (subject-there b (d .form) p low (d .here back) n),
+      full (nameBytes (b .unit)) (unit-there b (d .form) p low (d .here back) n),
       a,
-      finish-adds b t s h,
+      end-adds b t back s h,
     )

@@ -1,6 +1,6 @@
 -- An accepted begin keeps the invariant: the credits leave the source, in both books; then they are under way, and in the plain book
 -- at the place where they end.
-use mathlib.Core.Path.{_≡_, refl, sym, ap, _∙_}
+use mathlib.Core.Path.{_≡_, refl, sym, ap, _∙_, fun-ext}
 use mathlib.Core.Logic.{_≢_}
 use mathlib.Core.Bool.{Bool, true, false, cond}
 use mathlib.Core.Option.{some, none}
@@ -16,7 +16,7 @@ use Rattle.profiles.specs.Balance.{balanceRules}
 use Rattle.book.specs.Places.{putField}
 use Rattle.book.specs.Book.{wholeAmount, nameBytes, placeRecord, placeAt, transferAt, carriedBy, total, isSome, setBalance, setCredits, setTransfer}
 use Rattle.book.specs.Steps.{Begin, creditsIn, said, seen, testsBegin, firstRefusal, heldAt, lessened}
-use Rattle.book.specs.Plain.{Plain, worth, stock, holds, plainCredits, plainView, plainSeen, plainAnswer}
+use Rattle.book.specs.Plain.{Holding, Plain, worth, stock, holds, plainCredits, plainView, plainSeen, plainAnswer}
 use Rattle.book.specs.Claim.{route, cell, cellAt}
 use Rattle.book.specs.declared.Transfer.{Transfer}
 use Rattle.book.specs.declared.Book.{Book}
@@ -89,14 +89,31 @@ module _ {d : ℕ → Bool} {b : Book} {l : Plain} (v : Inv d b l) (f g t n h : 
         matches = sent-matches;
       }
 
--- the transfer's credits go to `to` in the end
-pub keptBegin : (b : Book) (l : Plain) (f g t : ℕ) (i : List ℕ) (d : ℕ → Bool) → d t ≡ false → Inv d b l
+-- taking n from a place of the plain book and giving it back changes nothing
+back : (l : Plain) (p w n : ℕ) (s : Holding) → l p ≡ holding s w → n ≤ w
+    → (q : ℕ) → plainCredits (plainCredits l p (worth (l p) - n)) p (worth (plainCredits l p (worth (l p) - n) p) + n) q ≡ l q
+back l p w n s h k q =
+    altered-all (λ i o. o ≡ l i) two (ap (holding s) full ∙ sym h) q (λ x. one .elsewhere q x)
+  where
+    one : Altered l (plainCredits l p (worth (l p) - n)) p (holding s (worth (l p) - n))
+    one = plain-credits l p w (worth (l p) - n) s h
+
+    two : Altered (plainCredits l p (worth (l p) - n))
+        (plainCredits (plainCredits l p (worth (l p) - n)) p (worth (plainCredits l p (worth (l p) - n) p) + n)) p
+        (holding s (worth (plainCredits l p (worth (l p) - n) p) + n))
+    two = plain-credits (plainCredits l p (worth (l p) - n)) p (worth (l p) - n) (worth (plainCredits l p (worth (l p) - n) p) + n) s (one .there)
+
+    full : worth (plainCredits l p (worth (l p) - n) p) + n ≡ w
+    full = omega (arith, ap worth (one .there), ap worth h)
+
+-- the transfer's credits go to `to` in the end; where they go back the plain book is not fed the begin
+pub keptBegin : (b : Book) (l : Plain) (f g t : ℕ) (i : List ℕ) (d : ℕ → Bool) → Inv d b l
     → firstRefusal (testsBegin (seen b) f g t i) ≡ Accepted → Kept d b l (Begin f g t i)
 unfolding seen plainSeen plainAnswer testsBegin creditsIn r c m
-keptBegin b l f g t i d fate v z =
+keptBegin b l f g t i d v z =
     record {
-      inv = sent (both .inv) f g t n g (rw fate) (k .low-to) (k .low-number) (stays f here-f) (stays g here-g) (stays g here-g) free room;
-      plain =
+      inv = invs (d t) refl;
+      plain = λ _.
           follow (testsBegin (seen b) f g t i) (testsBegin (plainSeen u l) f g t i)
           (same, (same, (λ _. refl, (λ _. rw (there-f, there-g), (same, (λ _. ap said checks, tt)))))) z;
       unit = unit-same (e₂ .others) ∙ same-unit (e₁ .others);
@@ -172,3 +189,10 @@ keptBegin b l f g t i d fate v z =
 
     after-total : total (setTransfer b₁ t 1 (record { from = f; to = g; amount = wholeAmount n })) ≡ total b₁ + n
     after-total = omega (arith, total-transfer e₂ (k .low-number), ap carriedBy free, val-halves n)
+
+    invs : (x : Bool) → d t ≡ x → Inv d (setTransfer b₁ t 1 (record { from = f; to = g; amount = wholeAmount n }))
+        (cond (d t) l (plainCredits (plainCredits l f (worth (l f) - n)) g (worth (plainCredits l f (worth (l f) - n) g) + n)))
+    invs false h = rw h (sent (both .inv) f g t n g (rw h) (k .low-to) (k .low-number) (stays f here-f) (stays g here-g) (stays g here-g) free room)
+    invs true h =
+        rw (h, ← (fun-ext (back l f (heldAt b f + coming d b f) n (cell (placeRecord b f)) there-f (omega (arith, enough)))))
+        (sent (both .inv) f g t n f (rw h) (k .low-from) (k .low-number) (stays f here-f) (stays g here-g) (stays f here-f) free room)

@@ -28,16 +28,17 @@ use Rattle.profiles.specs.Balance.{balanceRules}
 use Rattle.book.specs.Places.{placeView, closedView, putField}
 use Rattle.book.proofs.Accepted.{then-both}
 use Rattle.book.specs.Book.{credits, wholeAmount, nameBytes, placeRecord, transferRecord, placeAt, transferAt, stockOf, carriedBy, balances, creditsUnderWay, total, isSome, wellFormed}
-use Rattle.book.specs.Steps.{Open, Act, Begin, Finish, creditsIn, Doing, Issuing, Taking, doing, adds, seen, testsFinish, firstRefusal, heldAt, answer}
+use Rattle.book.specs.Steps.{Open, Act, Begin, creditsIn, Doing, Issuing, Taking, doing, adds, seen, heldAt, answer}
 use Rattle.book.specs.declared.Book.{Book}
 use Rattle.book.specs.declared.error.BookError.the-variants.{TooMuch}
 use Rattle.book.specs.declared.error.BookOutcome.the-variants.{Accepted}
 use Rattle.book.proofs.Tables.{sum-part}
 use Rattle.book.proofs.Rows.{refused-never, adds-is, act-affords, transfer-affords}
-use Rattle.book.proofs.Facts.{unmet, accepted-tests, Opens, opens, Acts, acts-so, Begins, begins, Finishes, finishes}
+use Rattle.book.proofs.Facts.{unmet, accepted-tests, Opens, opens, Acts, acts-so, Begins, begins}
 use Rattle.book.proofs.Formed.{Formed, formed}
-use Rattle.book.proofs.Views.{place-raw, transfer-raw, open-lt, home, home-open}
+use Rattle.book.proofs.Views.{place-raw, transfer-raw, open-lt}
 use Rattle.book.proofs.Invariant.{view-there, is-none}
+use Rattle.book.proofs.Endings.{ending, end, Ended, ended}
 
 -- ---- amounts
 
@@ -184,25 +185,12 @@ begin-takes b f g t i h =
     (rw (place-raw b f here-f .1, place-raw b g here-g .1) at (k .check)) in
     less-asked (placeRecord b f .balance) i (w .whole-places f (k .low-from) .balance) (omega (arith, w .fits, held-part b w f (k .low-from) here-f)) (a .within refl)
 
--- where a transfer's credits go, at either end: no overflow. `opened` is a 16-bit number
-module _ (b : Book) (t : ℕ) (s : b .opened < 2 ^ 16) where
-  Lands : ℕ → Type 0
-  Lands p = sumOf (placeRecord b p .balance) (transferRecord b t .amount) ≡ Ok (wholeAmount (heldAt b p + credits (transferRecord b t .amount)))
-
-  lands : (back : Bool) → wellFormed b ≡ true → firstRefusal (testsFinish (seen b) t) ≡ Accepted → Lands (home back (transferRecord b t))
-  unfolding Lands seen total
-  lands back f z =
-      let w : Formed b = formed b f in
-      let k : Finishes (seen b) t = finishes (seen b) t z in
-      let p : ℕ = home back (transferRecord b t) in
-      let here : isSome (placeAt b p) ≡ true =
-      home-open b (transferRecord b t) back (rw (transfer-raw b t (k .moving) .1) at (w .transfers t (k .low))) in
-      let low : p < 16 = open-lt b s p here in
-      sum-whole (placeRecord b p .balance) (transferRecord b t .amount) (w .whole-places p low .balance) (w .whole-transfers t (k .low))
-      (omega (arith, w .fits, held-part b w p low here, carried-part b w t (k .low) (k .moving)))
-
-  pub finish-adds : answer b (Finish t) ≡ Accepted
-      → sumOf (placeRecord b (transferRecord b t .to) .balance) (transferRecord b t .amount)
-      ≡ Ok (wholeAmount (heldAt b (transferRecord b t .to) + credits (transferRecord b t .amount)))
-  unfolding Lands
-  finish-adds h = lands false (accepted-tests b (Finish t) h .0) (accepted-tests b (Finish t) h .1)
+-- finish and cancel, where a transfer's credits land: no overflow. `opened` is a 16-bit number
+pub end-adds : (b : Book) (t : ℕ) (back : Bool) → b .opened < 2 ^ 16 → answer b (ending t back) ≡ Accepted
+    → sumOf (placeRecord b (end b t back) .balance) (transferRecord b t .amount) ≡ Ok (wholeAmount (heldAt b (end b t back) + credits (transferRecord b t .amount)))
+unfolding seen total
+end-adds b t back few h =
+    let e : Ended b t back = ended b t back h in
+    let low : end b t back < 16 = open-lt b few (end b t back) (e .here back) in
+    sum-whole (placeRecord b (end b t back) .balance) (transferRecord b t .amount) (e .form .whole-places (end b t back) low .balance) (e .form .whole-transfers t (e .facts .low))
+    (omega (arith, e .form .fits, held-part b (e .form) (end b t back) low (e .here back), carried-part b (e .form) t (e .facts .low) (e .facts .moving)))

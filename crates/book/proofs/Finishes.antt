@@ -1,4 +1,4 @@
--- An accepted finish keeps the invariant, and every transfer under way can be finished.
+-- An accepted finish or cancel keeps the invariant, and every transfer under way can be finished or cancelled.
 use mathlib.Core.Path.{_≡_, refl, sym, ap, _∙_}
 use mathlib.Core.Logic.{_≢_}
 use mathlib.Core.Bool.{Bool, true, false, cond}
@@ -6,12 +6,13 @@ use mathlib.Core.Option.{some, none}
 use Prim.Native.Nat.{ℕ, _+_, _<_}
 use native.Mathlib.Omega.{arith}
 use lib.Dec.{eqb}
+use borrow.Author.Tests.{eq-eqb, ne-eqb}
 use Rattle.amount.proofs.Halves.{val-halves}
 use Rattle.book.specs.Sets.{bit}
 use Rattle.book.specs.Book.{credits, wholeAmount, blankTransfer, placeRecord, transferRecord, placeAt, transferAt, stockOf, carriedBy, total, isSome, setBalance, setCredits, setTransfer}
-use Rattle.book.specs.Steps.{Finish, seen, testsFinish, firstRefusal, heldAt, raised, landed, answer}
+use Rattle.book.specs.Steps.{Finish, Cancel, seen, testsFinish, firstRefusal, heldAt, raised, landed, answer, way}
 use Rattle.book.specs.Plain.{Plain, plainAnswer}
-use Rattle.book.specs.Claim.{route, cell, shown, cellAt}
+use Rattle.book.specs.Claim.{route, turned, cell, shown, cellAt}
 use Rattle.book.specs.declared.Transfer.{Transfer}
 use Rattle.book.specs.declared.Book.{Book}
 use Rattle.book.specs.declared.error.BookOutcome.the-variants.{Accepted}
@@ -111,17 +112,33 @@ module _ (b : Book) (l : Plain) (t : ℕ) (d d′ : ℕ → Bool) (k : Bool) (fa
               let h : coming d′ c q ≡ coming d b q = omega (arith, coming-was q, toward-miss k q r (λ y. x (sym y))) in
               rw h (v .matches q z)
 
-pub keptFinish : (b : Book) (l : Plain) (t : ℕ) (d : ℕ → Bool) → d t ≡ false → Inv d b l → firstRefusal (testsFinish (seen b) t) ≡ Accepted
+-- the fates before it: it turns that of its own transfer
+turned-at : (k : Bool) (d : ℕ → Bool) (t : ℕ) → cond (eqb t t) k (d t) ≡ k
+turned-at k d t = rw (eq-eqb t t refl)
+
+turned-off : (k : Bool) (d : ℕ → Bool) (t s : ℕ) → s ≢ t → d s ≡ cond (eqb s t) k (d s)
+turned-off k d t s x = rw (ne-eqb s t x)
+
+pub keptFinish : (b : Book) (l : Plain) (t : ℕ) (d : ℕ → Bool) → Inv (turned (way (Finish t)) d) b l → firstRefusal (testsFinish (seen b) t) ≡ Accepted
     → Kept d b l (Finish t)
 unfolding ended seen plainAnswer
-keptFinish b l t d fate v z =
+keptFinish b l t d v z =
     let f : Finishes (seen b) t = finishes (seen b) t z in
-    let u = ends b l t d d false fate (λ s x. refl) v (f .low) (f .moving) in
-    record { inv = u .inv; plain = refl; unit = u .unit; moved = omega (arith, u .same-total); routes = u .routes }
+    let u = ends b l t (turned (way (Finish t)) d) d false (turned-at false d t) (turned-off false d t) v (f .low) (f .moving) in
+    record { inv = u .inv; plain = λ _. refl; unit = u .unit; moved = omega (arith, u .same-total); routes = u .routes }
 
--- the finish of a transfer under way would be accepted
-pub finishable : (d : ℕ → Bool) (b : Book) (l : Plain) → Inv d b l → (t : ℕ) → bit (b .pending) t ≡ 1 → answer b (Finish t) ≡ Accepted
+pub keptCancel : (b : Book) (l : Plain) (t : ℕ) (d : ℕ → Bool) → Inv (turned (way (Cancel t)) d) b l → firstRefusal (testsFinish (seen b) t) ≡ Accepted
+    → Kept d b l (Cancel t)
+unfolding ended seen plainAnswer
+keptCancel b l t d v z =
+    let f : Finishes (seen b) t = finishes (seen b) t z in
+    let u = ends b l t (turned (way (Cancel t)) d) d true (turned-at true d t) (turned-off true d t) v (f .low) (f .moving) in
+    record { inv = u .inv; plain = λ _. refl; unit = u .unit; moved = omega (arith, u .same-total); routes = u .routes }
+
+-- the finish of a transfer under way would be accepted, and so would its cancel
+pub finishable : (d : ℕ → Bool) (b : Book) (l : Plain) → Inv d b l → (t : ℕ) → bit (b .pending) t ≡ 1
+    → (answer b (Finish t) ≡ Accepted) × (answer b (Cancel t) ≡ Accepted)
 unfolding answer seen
 finishable d b l v t h =
-    rw (passes-28 b (v .good) (v .fits))
-    (finished (seen b) t (record { low = pending-lt b (v .good .shape) t h; moving = ap isSome (transfer-in b t h) }))
+    let p = finished (seen b) t (record { low = pending-lt b (v .good .shape) t h; moving = ap isSome (transfer-in b t h) }) in
+    (rw (passes-28 b (v .good) (v .fits)) p, rw (passes-28 b (v .good) (v .fits)) p)

@@ -1,8 +1,7 @@
 -- What holds of a book and the plain book between any two steps, and what each kind of step has to show.
--- A fate d says of each transfer number whether its credits go back in the end: requests that end a transfer otherwise than by
--- finish turn it. Where no step does, it is `forth`.
+-- A fate d says of each transfer number whether its credits go back in the end: a cancel turns it.
 use mathlib.Core.Path.{_≡_, refl, ap, _∙_}
-use mathlib.Core.Bool.{Bool, true, false, true≢false}
+use mathlib.Core.Bool.{Bool, true, false, cond, true≢false}
 use mathlib.Core.Option.{Option, some, none}
 use mathlib.Core.List.{List}
 use Prim.Native.Nat.{ℕ, _+_, _<_}
@@ -13,16 +12,13 @@ use Rattle.amount.proofs.Halves.{val-halves}
 use Rattle.book.specs.Book.{credits, wholeAmount, nameBytes, placeRecord, placeAt, transferAt, stockOf, total, isSome, nameOk, setBalance, setRecord}
 use Rattle.book.specs.Steps.{Step, viewOf, effect, issues, takes, way}
 use Rattle.book.specs.Plain.{Holding, Plain, stock, plainTotal, plainAnswer, plainPut, withBalance, holds, plainCredits, plainEffect}
-use Rattle.book.specs.Claim.{route, noted, cell, shown, cellAt}
+use Rattle.book.specs.Claim.{route, noted, leftOut, cell, shown, cellAt}
 use Rattle.book.specs.declared.Place.{Place}
 use Rattle.book.specs.declared.Book.{Book}
 use Rattle.book.specs.declared.error.BookOutcome.the-variants.{Accepted}
 use Rattle.book.proofs.Tables.{Altered, altered-map, altered-all, sum-altered}
 use Rattle.book.proofs.Formed.{Whole}
 use Rattle.book.proofs.Views.{Good, good-place, total-place, PlaceSet, record-set, same-transfers, place-raw, coming, coming-same}
-
-abbrev pub forth : ℕ → Bool
-forth t = false
 
 -- a place of the plain book, with n credits
 abbrev pub holding : Holding → ℕ → Option Holding
@@ -40,10 +36,10 @@ pub record Inv (d : ℕ → Bool) (b : Book) (l : Plain) : Type 0 where
   pub sums : plainTotal l ≡ total b
   pub matches : (p : ℕ) → p < 16 → l p ≡ credited (coming d b p) (cellAt b p)
 
--- what an accepted step keeps
+-- what an accepted step keeps, where d are the fates after it
 pub record Kept (d : ℕ → Bool) (b : Book) (l : Plain) (s : Step) : Type 0 where
-  pub inv : Inv d (effect b s) (plainEffect l s)
-  pub plain : plainAnswer (nameBytes (b .unit)) l s ≡ Accepted
+  pub inv : Inv d (effect b s) (cond (leftOut (way s) d) l (plainEffect l s))
+  pub plain : leftOut (way s) d ≡ false → plainAnswer (nameBytes (b .unit)) l s ≡ Accepted
   pub unit : effect b s .unit ≡ b .unit
   pub moved : total (effect b s) + takes s ≡ total b + issues s
   pub routes : (q : ℕ) → route (transferAt (effect b s) q) ≡ noted (way s) (λ t. route (transferAt b t)) q

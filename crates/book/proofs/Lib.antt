@@ -15,6 +15,7 @@ pub mod Finishes
 pub mod Whole
 pub mod Steady
 pub mod Orders
+pub mod Endings
 pub mod Worked
 pub mod AcceptedOrRefused
 pub mod PlainWorked

@@ -34,7 +34,7 @@ keptOpen b l p i d v t =
             sums = omega (arith, after-total, after-plain, v .sums);
             matches = matches-place d e a (v .matches) alike;
           };
-      plain =
+      plain = λ _.
           follow (testsOpen (seen b) p i) (testsOpen (plainSeen u l) p i)
           (same, (λ _. rw shut, (same, (λ h. rw shut (rw closed at h), (same, (same, (λ h. rw (v .sums) h, tt))))))) t;
       unit = same-unit (e .others);

@@ -18,14 +18,21 @@ use Rattle.book.specs.Refusals.{bookAnswerOf}
 use Rattle.book.specs.Book.{nameBytes, nameOf, blankName, blankPlace, blankTransfer, blankBook, placeRecord, transferRecord, placeAt, transferAt, balances, creditsUnderWay, total, nameOk, wellFormed, openPlace, setRecord, setTransfer}
 use Rattle.book.specs.Steps.{Step, Open, Act, Begin, Finish, creditsIn, bytesIn, adds, acts, doing, testsOpen, testsAct, testsBegin, testsFinish, seen, answer, next, startAnswer, startBook}
 use Rattle.book.specs.Plain.{Plain, emptyPlain, plainTotal, plainSeen, plainAnswer, plainPut, plainNext}
-use Rattle.book.specs.Claim.{acceptedOf, plainRun}
-use Rattle.book.proofs.Worked.{unit, opening, asking, five, allowed, session, second, second-left, shows}
+use Rattle.book.specs.Claim.{acceptedOf, rebuilt, plainRun}
+use Rattle.book.proofs.Worked.{unit, opening, asking, five, allowed, session, second, second-left, again, crossed, shows}
 
 abbrev fed : List Step
 fed = Open 0 (opening 49 53) ∷ Open 1 (opening 50 48) ∷ Begin 0 1 0 five ∷ Finish 0 ∷ []
 
 abbrev second-fed : List Step
 second-fed = Open 0 (opening 49 53) ∷ Open 1 (opening 50 50) ∷ Act 0 13 (asking 52) ∷ Act 1 12 (allowed 55) ∷ Begin 0 1 2 (asking 54) ∷ []
+
+-- the cancelled begin of number 0 is left out, the later one of the same number is fed
+abbrev again-fed : List Step
+again-fed = Open 0 (opening 49 53) ∷ Open 1 (opening 50 48) ∷ Begin 0 1 0 (asking 51) ∷ Finish 0 ∷ []
+
+abbrev crossed-fed : List Step
+crossed-fed = Open 0 (opening 49 53) ∷ Open 1 (opening 50 51) ∷ Begin 0 1 0 five ∷ Finish 0 ∷ Act 1 18 (asking 52) ∷ []
 
 abbrev plain : List Step → Plain
 plain ss = plainRun unit emptyPlain ss
@@ -46,3 +53,10 @@ pub plain-answers : (
     × (bookAnswerOf (answer second-left (Begin 0 1 2 (asking 51))) .number ≡ 21)
 unfolding val limit halves orderOf allDigits digitsAfter decimal amountIf readOf compareOf zeros every sum prior entryAt entriesFrom lookup soundAs field textIn bytesOf marked parsed amountBy amountOf stateAbsent stateThere aboveZero heldBy balanceRules bit withBit entry nameBytes nameOf blankName blankPlace blankTransfer blankBook placeRecord transferRecord placeAt transferAt balances creditsUnderWay total nameOk wellFormed openPlace setRecord setTransfer creditsIn bytesIn adds acts doing testsOpen testsAct testsBegin testsFinish seen answer next startAnswer startBook emptyPlain plainTotal plainSeen plainAnswer plainPut plainNext
 plain-answers = (refl, refl)
+
+-- request 1: what the plain book is fed of the two sessions with cancels, and what it then holds, as the book does
+pub cancel-worked : (rebuilt (acceptedOf (startBook unit) again) ≡ again-fed) × (rebuilt (acceptedOf (startBook unit) crossed) ≡ crossed-fed)
+    × (map (plain again-fed) (0 ∷ 1 ∷ 2 ∷ []) ≡ shows 49 2 ∷ shows 50 3 ∷ none ∷ [])
+    × (map (plain crossed-fed) (0 ∷ 1 ∷ 2 ∷ []) ≡ shows 49 0 ∷ shows 50 4 ∷ none ∷ [])
+unfolding val limit halves orderOf allDigits digitsAfter decimal amountIf readOf compareOf zeros every sum prior entryAt entriesFrom lookup soundAs field textIn bytesOf marked parsed amountBy amountOf stateAbsent stateThere aboveZero heldBy balanceRules bit withBit entry nameBytes nameOf blankName blankPlace blankTransfer blankBook placeRecord transferRecord placeAt transferAt balances creditsUnderWay total nameOk wellFormed openPlace setRecord setTransfer creditsIn bytesIn adds acts doing testsOpen testsAct testsBegin testsFinish seen answer next startAnswer startBook emptyPlain plainTotal plainSeen plainAnswer plainPut plainNext
+cancel-worked = (refl, refl, refl, refl)

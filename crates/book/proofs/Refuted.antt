@@ -13,7 +13,7 @@ use Rattle.registry.specs.Tests.{stateAbsent, stateThere, aboveZero, heldBy}
 use Rattle.profiles.specs.Balance.{balanceRules}
 use Rattle.book.specs.Sets.{bit, withBit, entry}
 use Rattle.book.specs.Book.{nameBytes, nameOf, blankName, blankPlace, blankTransfer, blankBook, placeRecord, transferRecord, placeAt, transferAt, balances, creditsUnderWay, total, nameOk, wellFormed, openPlace, setRecord, setTransfer}
-use Rattle.book.specs.Steps.{Open, Act, Begin, creditsIn, bytesIn, adds, acts, doing, heldAt, effect, testsOpen, testsAct, testsBegin, testsFinish, seen, answer, next, startAnswer, startBook}
+use Rattle.book.specs.Steps.{Open, Act, Begin, Finish, Cancel, creditsIn, bytesIn, adds, acts, doing, heldAt, effect, testsOpen, testsAct, testsBegin, testsFinish, seen, answer, next, startAnswer, startBook}
 use Rattle.book.specs.Claim.{run}
 use Rattle.book.specs.declared.Book.{Book}
 use Prim.Native.Nat.{ℕ}
@@ -41,3 +41,11 @@ not-without-effect h = let e : _≡_ {A = ℕ} 0 5 = sym (computed .3) ∙ ap (�
 -- a refused step has not its effect
 pub not-where-refused : next two (Open 16 five) ≡ effect two (Open 16 five) → ⊥
 not-where-refused h = let e : _≡_ {A = ℕ} 3 65539 = sym (computed .4) ∙ ap (λ (b : Book). b .opened) h ∙ computed .5 in absurd (omega (arith, e))
+
+-- a cancel is not a finish
+sent : (heldAt (next (next two (Begin 0 1 0 five)) (Cancel 0)) 0 ≡ 5) × (heldAt (next (next two (Begin 0 1 0 five)) (Finish 0)) 0 ≡ 0)
+unfolding val limit halves orderOf allDigits digitsAfter decimal amountIf readOf compareOf zeros every sum prior entryAt entriesFrom lookup soundAs field textIn bytesOf marked parsed amountBy amountOf stateAbsent stateThere aboveZero heldBy balanceRules bit withBit entry nameBytes nameOf blankName blankPlace blankTransfer blankBook placeRecord transferRecord placeAt transferAt balances creditsUnderWay total nameOk wellFormed openPlace setRecord setTransfer creditsIn bytesIn acts adds doing testsOpen testsAct testsBegin testsFinish seen answer next startAnswer startBook
+sent = (refl, refl)
+
+pub not-forth : next (next two (Begin 0 1 0 five)) (Cancel 0) ≡ next (next two (Begin 0 1 0 five)) (Finish 0) → ⊥
+not-forth h = let e : _≡_ {A = ℕ} 5 0 = sym (sent .0) ∙ ap (λ (b : Book). heldAt b 0) h ∙ sent .1 in absurd (omega (arith, e))

@@ -2,7 +2,7 @@
 -- The plain book of such a book has at each place what the book has there and what is coming to it.
 use mathlib.Core.Path.{_≡_, refl, sym, ap, _∙_}
 use mathlib.Core.Logic.{_≢_}
-use mathlib.Core.Bool.{true, false}
+use mathlib.Core.Bool.{Bool, true}
 use mathlib.Core.Option.{Option, some, none}
 use mathlib.Core.List.{[]}
 use Prim.Native.Nat.{ℕ, zero, suc, _+_, _<_}
@@ -10,18 +10,19 @@ use native.Mathlib.Omega.{arith}
 use Rattle.amount.specs.Numbers.{limit}
 use Rattle.sheet.specs.Walk.{sum}
 use Rattle.book.specs.Book.{placeAt, transferAt, stockOf, carriedBy, balances, creditsUnderWay, total, isSome, transferOk, wellFormed}
-use Rattle.book.specs.Steps.{Step, answer, effect, next}
+use Rattle.book.specs.Steps.{Step, Cancel, way, answer, effect, next}
 use Rattle.book.specs.Plain.{Plain, stock, plainTotal}
-use Rattle.book.specs.Claim.{keep, issued, taken, shown, cellAt}
+use Rattle.book.specs.Claim.{keep, issued, taken, turned, cancelled, shown, cellAt}
 use Rattle.book.specs.declared.Place.{Place}
 use Rattle.book.specs.declared.Transfer.{Transfer}
 use Rattle.book.specs.declared.Book.{Book}
 use Rattle.book.specs.declared.error.BookOutcome.{BookOutcome}
 use Rattle.book.specs.declared.error.BookOutcome.the-variants.{Accepted, Refused}
 use Rattle.book.proofs.Tables.{sum-same, sum-zero, sum-altered}
+use Rattle.book.proofs.Facts.{accepted-tests}
 use Rattle.book.proofs.Formed.{formed}
 use Rattle.book.proofs.Views.{Shape, Good, passes-28, home, home-open, open-lt, toward, toward-none, toward-hit, toward-miss, coming, coming-closed}
-use Rattle.book.proofs.Invariant.{forth, Inv, Kept, credited}
+use Rattle.book.proofs.Invariant.{Inv, Kept, credited}
 use Rattle.book.proofs.Whole.{kept}
 
 -- ---- sums
@@ -43,39 +44,40 @@ sum-single f p n h k =
 
 -- ---- the plain book of a book
 
-module _ (b : Book) (g : Good b) where
+module _ (d : ℕ → Bool) (b : Book) (g : Good b) where
   abbrev plainOf : Plain
-  plainOf p = credited (coming forth b p) (cellAt b p)
+  plainOf p = credited (coming d b p) (cellAt b p)
 
   -- a transfer's credits are coming to one place
-  whole-carried : (o : Option Transfer) → transferOk b o ≡ true → sum (λ p. toward false p o) 16 ≡ carriedBy o
-  whole-carried none h = sum-zero (λ p. toward false p none) 16 (λ p k. toward-none false p)
-  whole-carried (some r) h =
-      sum-single (λ p. toward false p (some r)) (home false r) 16 (open-lt b (g .shape .places .range) (home false r) (home-open b r false h))
-      (λ q d. toward-miss false q r (λ e. d (sym e)))
-      ∙ toward-hit false (home false r) r refl
+  whole-carried : (back : Bool) (o : Option Transfer) → transferOk b o ≡ true → sum (λ p. toward back p o) 16 ≡ carriedBy o
+  whole-carried back none h = sum-zero (λ p. toward back p none) 16 (λ p k. toward-none back p)
+  whole-carried back (some r) h =
+      sum-single (λ p. toward back p (some r)) (home back r) 16 (open-lt b (g .shape .places .range) (home back r) (home-open b r back h))
+      (λ q x. toward-miss back q r (λ e. x (sym e)))
+      ∙ toward-hit back (home back r) r refl
 
-  all-coming : sum (coming forth b) 16 ≡ creditsUnderWay b
+  all-coming : sum (coming d b) 16 ≡ creditsUnderWay b
   unfolding coming creditsUnderWay
   all-coming =
-      sum-swap (λ p t. toward false p (transferAt b t)) 16 8
-      ∙ sum-same (λ t. carriedBy (transferAt b t)) (λ t. sum (λ p. toward false p (transferAt b t)) 16) 8 (λ t k. whole-carried (transferAt b t) (g .transfers t k))
+      sum-swap (λ p t. toward (d t) p (transferAt b t)) 16 8
+      ∙ sum-same (λ t. carriedBy (transferAt b t)) (λ t. sum (λ p. toward (d t) p (transferAt b t)) 16) 8
+      (λ t k. whole-carried (d t) (transferAt b t) (g .transfers t k))
 
-  stock-is : (p : ℕ) → stock (plainOf p) ≡ stockOf (placeAt b p) + coming forth b p
+  stock-is : (p : ℕ) → stock (plainOf p) ≡ stockOf (placeAt b p) + coming d b p
   stock-is p = go (placeAt b p) refl
     where
-      go : (o : Option Place) → placeAt b p ≡ o → stock (credited (coming forth b p) (shown o)) ≡ stockOf o + coming forth b p
-      go none e = let z = coming-closed forth b g p (ap isSome e) in omega (arith, z)
+      go : (o : Option Place) → placeAt b p ≡ o → stock (credited (coming d b p) (shown o)) ≡ stockOf o + coming d b p
+      go none e = let z = coming-closed d b g p (ap isSome e) in omega (arith, z)
       go (some x) e = refl
 
   sums-is : plainTotal plainOf ≡ total b
   unfolding plainTotal total balances
   sums-is =
-      sum-same (λ p. stockOf (placeAt b p) + coming forth b p) (λ p. stock (plainOf p)) 16 (λ p k. stock-is p)
-      ∙ sum-add (λ p. stockOf (placeAt b p)) (coming forth b) 16
+      sum-same (λ p. stockOf (placeAt b p) + coming d b p) (λ p. stock (plainOf p)) 16 (λ p k. stock-is p)
+      ∙ sum-add (λ p. stockOf (placeAt b p)) (coming d b) 16
       ∙ ap (λ (z : ℕ). balances b + z) all-coming
 
-  has-plain : total b < limit → Inv forth b plainOf
+  has-plain : total b < limit → Inv d b plainOf
   has-plain f = record { good = g; fits = f; sums = sums-is; matches = λ p k. refl }
 
 -- ---- one step
@@ -95,8 +97,12 @@ module _ (b : Book) (s : Step) (x : Steady b) where
   its-good =
       let f = formed b (x .formed) in record { shape = x .shape; unit = f .unit; places = f .places; transfers = f .transfers }
 
-  its-kept : answer b s ≡ Accepted → Kept forth b (plainOf b its-good) s
-  its-kept h = kept b (plainOf b its-good) s (has-plain b its-good (formed b (x .formed) .fits)) h
+  -- the fates before the step, if all that is under way after it is to be finished
+  abbrev its-fates : ℕ → Bool
+  its-fates = turned (way s) (cancelled [])
+
+  its-kept : answer b s ≡ Accepted → Kept (cancelled []) b (plainOf its-fates b its-good) s
+  its-kept h = kept b (plainOf its-fates b its-good) s (cancelled []) (has-plain its-fates b its-good (formed b (x .formed) .fits)) h
 
   pub step-steady : Stepped b (next b s) (answer b s) s
   unfolding next
@@ -110,3 +116,12 @@ module _ (b : Book) (s : Step) (x : Steady b) where
             moved = omega (arith, k .moved);
           })
       go (Refused e) h = rw h (record { steady = x; moved = refl })
+
+-- document 02, request 1: "the sum over balances and credits under way is unchanged by it". Premise: the arrays and sets are of a book's size
+pub cancel-keeps-the-sum : (b : Book) (t : ℕ) → Shape b → total (next b (Cancel t)) ≡ total b
+unfolding next
+cancel-keeps-the-sum b t x = go (answer b (Cancel t)) refl
+  where
+    go : (o : BookOutcome) → answer b (Cancel t) ≡ o → total (next b (Cancel t)) ≡ total b
+    go Accepted h = let k = its-kept b (Cancel t) (record { shape = x; formed = accepted-tests b (Cancel t) h .0 }) h in rw h (omega (arith, k .moved))
+    go (Refused e) h = rw h

@@ -1,7 +1,7 @@
 -- DEMAND 3, proved: the claim of specs/Claim over every accepted start and every list of steps.
 use mathlib.Core.Path.{_≡_, refl, sym, ap, _∙_, subst, fun-ext}
 use mathlib.Core.Logic.{_≢_}
-use mathlib.Core.Bool.{Bool, true}
+use mathlib.Core.Bool.{Bool, true, false, cond}
 use mathlib.Core.Option.{Option, some, none}
 use mathlib.Core.List.{List, [], _∷_}
 use Prim.Native.Nat.{ℕ, _+_, zero-le}
@@ -17,9 +17,9 @@ use Rattle.registry.specs.declared.error.ProfileError.the-variants.{Empty}
 use Rattle.sheet.specs.Walk.{every}
 use Rattle.book.specs.Sets.{bit, withBit, occurrences}
 use Rattle.book.specs.Book.{nameBytes, nameOf, blankPlace, blankTransfer, blankBook, noPlace, noTransfer, placeRecord, transferRecord, placeAt, transferAt, stockOf, carriedBy, balances, creditsUnderWay, total, nameOk, setUnit, scalesOk, setRecord, setTransfer}
-use Rattle.book.specs.Steps.{Step, Open, Act, Begin, Finish, Route, refusedIf, firstRefusal, testsOf, seen, answer, effect, next, startAnswer, startBook}
+use Rattle.book.specs.Steps.{Step, Open, Act, Begin, Finish, Cancel, Route, Way, Begins, Ends, Stays, way, refusedIf, firstRefusal, testsOf, seen, answer, effect, next, startAnswer, startBook}
 use Rattle.book.specs.Plain.{Holding, Plain, emptyPlain, stock, plainTotal, plainAnswer, plainEffect, plainNext}
-use Rattle.book.specs.Claim.{run, acceptedOf, plainRun, PlainAccepts, issued, taken, route, underWay, cellAt, EachOnce, Sound, Settled, Claim}
+use Rattle.book.specs.Claim.{run, acceptedOf, turned, cancelled, leftOut, rebuilt, plainRun, PlainAccepts, issued, taken, route, underWay, cellAt, EachOnce, Sound, Settled, Claim}
 use Rattle.book.specs.declared.Name.{Name}
 use Rattle.book.specs.declared.Book.{Book}
 use Rattle.book.specs.declared.error.BookError.{BookError}
@@ -32,22 +32,24 @@ use Rattle.book.proofs.Facts.{passed, unmet, accepted-tests}
 use Rattle.book.proofs.Formed.{whole}
 use Rattle.book.proofs.Views.{Shape, passes-28, none-coming}
 use Rattle.book.proofs.Orders.{members, an-order}
-use Rattle.book.proofs.Invariant.{forth, Inv, Kept, credited, holding}
+use Rattle.book.proofs.Invariant.{Inv, Kept, credited, holding}
 use Rattle.book.proofs.Opens.{keptOpen}
 use Rattle.book.proofs.Acts.{keptAct}
 use Rattle.book.proofs.Begins.{keptBegin}
-use Rattle.book.proofs.Finishes.{keptFinish, finishable}
+use Rattle.book.proofs.Finishes.{keptFinish, keptCancel, finishable}
 
 -- ---- one step: a case for each kind
 
-pub kept : (b : Book) (l : Plain) (s : Step) → Inv forth b l → answer b s ≡ Accepted → Kept forth b l s
-kept b l s v h = go s (accepted-tests b s h .1)
+-- d: the fates after it
+pub kept : (b : Book) (l : Plain) (s : Step) (d : ℕ → Bool) → Inv (turned (way s) d) b l → answer b s ≡ Accepted → Kept d b l s
+kept b l s d v h = go s v (accepted-tests b s h .1)
   where
-    go : (s : Step) → firstRefusal (testsOf (seen b) s) ≡ Accepted → Kept forth b l s
-    go (Open p i) t = keptOpen b l p i forth v t
-    go (Act p o i) t = keptAct b l p o i forth v t
-    go (Begin f g n i) t = keptBegin b l f g n i forth refl v t
-    go (Finish n) t = keptFinish b l n forth refl v t
+    go : (s : Step) → Inv (turned (way s) d) b l → firstRefusal (testsOf (seen b) s) ≡ Accepted → Kept d b l s
+    go (Open p i) w t = keptOpen b l p i d w t
+    go (Act p o i) w t = keptAct b l p o i d w t
+    go (Begin f g n i) w t = keptBegin b l f g n i d w t
+    go (Finish n) w t = keptFinish b l n d w t
+    go (Cancel n) w t = keptCancel b l n d w t
 
 -- ---- every list
 
@@ -68,23 +70,36 @@ routesOf b t = route (transferAt b t)
 
 -- what a list keeps, from a book b of the unit u with its plain book l
 record Lists (u : List ℕ) (b : Book) (l : Plain) (ss : List Step) : Type 0 where
-  inv : Inv forth (run b ss) (plainRun u l (acceptedOf b ss))
-  plain : PlainAccepts u l (acceptedOf b ss)
+  inv : Inv (cancelled []) (run b ss) (plainRun u l (rebuilt (acceptedOf b ss)))
+  plain : PlainAccepts u l (rebuilt (acceptedOf b ss))
   moved : total (run b ss) + taken (acceptedOf b ss) ≡ total b + issued (acceptedOf b ss)
   routes : routesOf (run b ss) ≡ underWay (routesOf b) (acceptedOf b ss)
 
-lists : (ss : List Step) (u : List ℕ) (b : Book) (l : Plain) → nameBytes (b .unit) ≡ u → Inv forth b l → Lists u b l ss
+-- the plain book, fed a step or not
+fed-run : (x : Bool) (u : List ℕ) (l : Plain) (s : Step) (a : List Step) (P : Plain → Type 0) → (x ≡ false → plainAnswer u l s ≡ Accepted)
+    → P (plainRun u (cond x l (plainEffect l s)) a) → P (plainRun u l (cond x a (s ∷ a)))
+fed-run true u l s a P h z = z
+fed-run false u l s a P h z = subst (λ (m : Plain). P (plainRun u m a)) (sym (plain-accepted u l s (h refl))) z
+
+fed-accepts : (x : Bool) (u : List ℕ) (l : Plain) (s : Step) (a : List Step) → (x ≡ false → plainAnswer u l s ≡ Accepted)
+    → PlainAccepts u (cond x l (plainEffect l s)) a → PlainAccepts u l (cond x a (s ∷ a))
+fed-accepts true u l s a h z = z
+fed-accepts false u l s a h z = (h refl, subst (λ (m : Plain). PlainAccepts u m a) (sym (plain-accepted u l s (h refl))) z)
+
+-- the fates before the list are those that it brings; after it, all that is under way is to be finished
+lists : (ss : List Step) (u : List ℕ) (b : Book) (l : Plain) → nameBytes (b .unit) ≡ u → Inv (cancelled (acceptedOf b ss)) b l → Lists u b l ss
 lists [] u b l z v = record { inv = v; plain = tt; moved = refl; routes = refl }
 lists (s ∷ ss) u b l z v = go (answer b s) refl (λ m y w. lists ss u (next b s) m y w)
   where
     a : List Step
     a = acceptedOf (next b s) ss
 
-    go : (x : BookOutcome) → answer b s ≡ x → ((m : Plain) → nameBytes (next b s .unit) ≡ u → Inv forth (next b s) m → Lists u (next b s) m ss)
+    go : (x : BookOutcome) → answer b s ≡ x → ((m : Plain) → nameBytes (next b s .unit) ≡ u → Inv (cancelled a) (next b s) m → Lists u (next b s) m ss)
         → Lists u b l (s ∷ ss)
     go (Refused r) h rest =
         let e : next b s ≡ b = next-refused b s h in
-        let r = rest l (ap (λ (c : Book). nameBytes (c .unit)) e ∙ z) (subst (λ (c : Book). Inv forth c l) (sym e) v) in
+        let w : Inv (cancelled a) b l = rw h at v in
+        let r = rest l (ap (λ (c : Book). nameBytes (c .unit)) e ∙ z) (subst (λ (c : Book). Inv (cancelled a) c l) (sym e) w) in
         record {
           inv = rw h (r .inv);
           plain = rw h (r .plain);
@@ -92,14 +107,15 @@ lists (s ∷ ss) u b l z v = go (answer b s) refl (λ m y w. lists ss u (next b 
           routes = rw h (r .routes ∙ ap (λ (c : Book). underWay (routesOf c) a) e);
         }
     go Accepted h rest =
-        let k = kept b l s v h in
+        let k = kept b l s (cancelled a) (rw h at v) h in
         let e : next b s ≡ effect b s = next-accepted b s h in
-        let p : plainAnswer u l s ≡ Accepted = subst (λ (n : List ℕ). plainAnswer n l s ≡ Accepted) z (k .plain) in
-        let w : Inv forth (next b s) (plainNext u l s) = rw (e, plain-accepted u l s p) (k .inv) in
-        let r = rest (plainNext u l s) (ap (λ (c : Book). nameBytes (c .unit)) e ∙ ap nameBytes (k .unit) ∙ z) w in
+        let x : Bool = leftOut (way s) (cancelled a) in
+        let p : x ≡ false → plainAnswer u l s ≡ Accepted = λ q. subst (λ (n : List ℕ). plainAnswer n l s ≡ Accepted) z (k .plain q) in
+        let r = rest (cond x l (plainEffect l s)) (ap (λ (c : Book). nameBytes (c .unit)) e ∙ ap nameBytes (k .unit) ∙ z)
+        (subst (λ (c : Book). Inv (cancelled a) c (cond x l (plainEffect l s))) (sym e) (k .inv)) in
         record {
-          inv = rw h (r .inv);
-          plain = rw h (p, r .plain);
+          inv = rw h (fed-run x u l s (rebuilt a) (λ m. Inv (cancelled []) (run (next b s) ss) m) p (r .inv));
+          plain = rw h (fed-accepts x u l s (rebuilt a) p (r .plain));
           moved = rw h (omega (arith, k .moved, r .moved, ap total e));
           routes = rw h (r .routes ∙ ap (λ (m : ℕ → Option Route). underWay m a) (ap routesOf e ∙ fun-ext (k .routes)));
         }
@@ -208,27 +224,35 @@ uncredited : (o : Option Holding) → credited 0 o ≡ o
 uncredited none = refl
 uncredited (some h) = ap (holding h) (add-zero (h .balance))
 
-settle : (order : List ℕ) (b : Book) (l : Plain) → Inv forth b l → EachOnce b order → Settled b l order
+-- an end that is no cancel turns no fate, where none goes back
+still : (back : Bool) (t : ℕ) → back ≡ false → turned (Ends t back) (cancelled []) ≡ cancelled []
+still back t h = rw h (fun-ext (λ s. go (eqb s t)))
+  where
+    go : (x : Bool) → cond x false false ≡ false
+    go true = refl
+    go false = refl
+
+settle : (order : List ℕ) (b : Book) (l : Plain) → Inv (cancelled []) b l → EachOnce b order → Settled b l order
 settle [] b l v o =
     record {
       finished = tt;
       none-left = bits-zero 8 (b .pending) (v .good .shape .transfers .range) idle;
-      same = λ p k. sym (v .matches p k ∙ rw (none-coming forth b idle p) (uncredited (cellAt b p)));
+      same = λ p k. sym (v .matches p k ∙ rw (none-coming (cancelled []) b idle p) (uncredited (cellAt b p)));
     }
   where
     idle : (t : ℕ) → bit (b .pending) t ≡ 0
     idle t = sym (o t) ∙ count-nil t
 settle (t ∷ ts) b l v o =
-    let h : answer b (Finish t) ≡ Accepted = finishable forth b l v t (first-pending b t ts o) in
+    let h : answer b (Finish t) ≡ Accepted = finishable (cancelled []) b l v t (first-pending b t ts o) .0 in
     let e : next b (Finish t) ≡ effect b (Finish t) = next-accepted b (Finish t) h in
-    let k : Kept forth b l (Finish t) = kept b l (Finish t) v h in
+    let k : Kept (cancelled []) b l (Finish t) = kept b l (Finish t) (cancelled []) (subst (λ (d : ℕ → Bool). Inv d b l) (sym (still false t refl)) v) h in
     let u : Settled (next b (Finish t)) l ts = settle ts (next b (Finish t)) l (rw e (k .inv)) (rw e (rest-once b t ts o)) in
     record { finished = (h, u .finished); none-left = u .none-left; same = u .same }
 
 -- ---- the whole
 
 from-start : (u : List ℕ) → startAnswer u ≡ Accepted → (ss : List Step) → Lists u (startBook u) emptyPlain ss
-from-start u h ss = lists ss u (startBook u) emptyPlain (unit-fresh u h) (start u h forth)
+from-start u h ss = lists ss u (startBook u) emptyPlain (unit-fresh u h) (start u h _)
 
 pub demand3 : Claim
 demand3 u h steps =
@@ -246,7 +270,8 @@ demand3 u h steps =
           under-way = λ t.
               ap (λ (m : ℕ → Option Route). m t)
               (k .routes ∙ ap (λ (m : ℕ → Option Route). underWay m (acceptedOf (startBook u) ss)) (fun-ext (λ s. ap route (no-transfer u h s))));
-          finishable = λ t m. finishable forth (run (startBook u) ss) _ (k .inv) t m;
+          finishable = λ t m. finishable (cancelled []) (run (startBook u) ss) _ (k .inv) t m .0;
+          cancellable = λ t m. finishable (cancelled []) (run (startBook u) ss) _ (k .inv) t m .1;
           well-formed = passes-28 (run (startBook u) ss) (k .inv .good) (k .inv .fits);
         }
 
@@ -258,3 +283,27 @@ some-order u h steps = an-order (run (startBook u) steps) (from-start u h steps 
 -- every book of a run has a book's shape
 pub in-shape : (u : List ℕ) → startAnswer u ≡ Accepted → (steps : List Step) → Shape (run (startBook u) steps)
 in-shape u h steps = from-start u h steps .inv .good .shape
+
+-- ---- lists without cancels: the plain book is fed all the accepted steps, as document 01 says
+
+abbrev goesBack : Way → Bool
+goesBack (Begins t r) = false
+goesBack (Ends t back) = back
+goesBack Stays = false
+
+abbrev pub NoCancel : List Step → Type 0
+NoCancel [] = Unit {0}
+NoCancel (s ∷ ss) = (goesBack (way s) ≡ false) × NoCancel ss
+
+none-back : (w : Way) → goesBack w ≡ false → (turned w (cancelled []) ≡ cancelled []) × (leftOut w (cancelled []) ≡ false)
+none-back (Begins t r) h = (refl, refl)
+none-back (Ends t back) h = (still back t h, h)
+none-back Stays h = (refl, refl)
+
+none-cancelled : (ss : List Step) → NoCancel ss → cancelled ss ≡ cancelled []
+none-cancelled [] h = refl
+none-cancelled (s ∷ ss) h = ap (turned (way s)) (none-cancelled ss (h .1)) ∙ none-back (way s) (h .0) .0
+
+pub rebuilt-whole : (ss : List Step) → NoCancel ss → rebuilt ss ≡ ss
+rebuilt-whole [] h = refl
+rebuilt-whole (s ∷ ss) h = rw (none-cancelled ss (h .1), none-back (way s) (h .0) .1, rebuilt-whole ss (h .1))

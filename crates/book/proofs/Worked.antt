@@ -1,5 +1,5 @@
--- Two sessions computed on the definitions, their sheets as bytes: document 01's worked session, and one with acts that ends with a
--- transfer under way. What is expected is worked out by hand from document 01.
+-- Sessions computed on the definitions, their sheets as bytes: document 01's worked session, one with acts that ends with a transfer under
+-- way, and two with cancels. What is expected is worked out by hand from the documents.
 use mathlib.Core.Path.{_≡_, refl}
 use mathlib.Core.List.{List, [], _∷_, map}
 use mathlib.Core.Option.{Option, some}
@@ -20,7 +20,7 @@ use Rattle.profiles.specs.Balance.{balanceRules}
 use Rattle.book.specs.Sets.{bit, withBit, entry}
 use Rattle.book.specs.Refusals.{bookAnswerOf}
 use Rattle.book.specs.Book.{wholeAmount, nameBytes, nameOf, blankName, blankPlace, blankTransfer, blankBook, placeRecord, transferRecord, placeAt, transferAt, balances, creditsUnderWay, total, nameOk, wellFormed, openPlace, setRecord, setTransfer}
-use Rattle.book.specs.Steps.{Step, Open, Act, Begin, Finish, creditsIn, bytesIn, adds, acts, doing, testsOpen, testsAct, testsBegin, testsFinish, seen, answer, next, startAnswer, startBook}
+use Rattle.book.specs.Steps.{Step, Open, Act, Begin, Finish, Cancel, creditsIn, bytesIn, adds, acts, doing, testsOpen, testsAct, testsBegin, testsFinish, seen, answer, next, startAnswer, startBook}
 use Rattle.book.specs.Plain.{Holding}
 use Rattle.book.specs.Claim.{run, cellAt}
 use Rattle.book.specs.declared.Place.{Place}
@@ -108,3 +108,27 @@ second-left =
 pub second-worked : Worked second (done ∷ done ∷ done ∷ short 2 3 ∷ numbered 7 10 ∷ done ∷ done ∷ []) second-left (shows 49 3 ∷ shows 50 9 ∷ [])
 unfolding val limit halves orderOf allDigits digitsAfter decimal amountIf readOf compareOf zeros every sum prior entryAt entriesFrom lookup soundAs field textIn bytesOf marked parsed amountBy amountOf stateAbsent stateThere aboveZero heldBy balanceRules bit withBit entry nameBytes nameOf blankName blankPlace blankTransfer blankBook placeRecord transferRecord placeAt transferAt balances creditsUnderWay total nameOk wellFormed openPlace setRecord setTransfer creditsIn bytesIn adds acts doing testsOpen testsAct testsBegin seen answer next startAnswer startBook
 second-worked = (refl, refl, refl)
+
+-- ---- document 02, request 1. `N1` holds 5 and sends them by number 0; they are cancelled, and `N1` holds 5 again; a second cancel finds
+-- nothing under way; then 3 are sent by the same number, and finished
+
+abbrev pub again : List Step
+again =
+    Open 0 (opening 49 53) ∷ Open 1 (opening 50 48) ∷ Begin 0 1 0 five ∷ Cancel 0 ∷ Cancel 0 ∷ Begin 0 1 0 (asking 51) ∷ Finish 0 ∷ []
+
+pub again-worked : Worked again (done ∷ done ∷ done ∷ done ∷ numbered 23 0 ∷ done ∷ done ∷ []) (left (account 49 2) (account 50 3) 0 (replicate 8 blankTransfer))
+    (shows 49 2 ∷ shows 50 3 ∷ [])
+unfolding val limit halves orderOf allDigits digitsAfter decimal amountIf readOf compareOf zeros every sum prior entryAt entriesFrom lookup soundAs field textIn bytesOf marked parsed amountBy amountOf stateAbsent stateThere aboveZero heldBy balanceRules bit withBit entry nameBytes nameOf blankName blankPlace blankTransfer blankBook placeRecord transferRecord placeAt transferAt balances creditsUnderWay total nameOk wellFormed openPlace setRecord setTransfer creditsIn bytesIn adds acts doing testsOpen testsAct testsBegin testsFinish seen answer next startAnswer startBook
+again-worked = (refl, refl, refl)
+
+-- two transfers overlap: 5 from `N1` to `N2` by number 0, 3 from `N2` to `N1` by number 1. The first is finished, and `N2` spends 4 of the 5; then the
+-- second is cancelled, and its 3 are back at `N2`, which holds 4
+
+abbrev pub crossed : List Step
+crossed =
+    Open 0 (opening 49 53) ∷ Open 1 (opening 50 51) ∷ Begin 0 1 0 five ∷ Begin 1 0 1 (asking 51) ∷ Finish 0 ∷ Act 1 18 (asking 52) ∷ Cancel 1 ∷ []
+
+pub crossed-worked : Worked crossed (done ∷ done ∷ done ∷ done ∷ done ∷ done ∷ done ∷ []) (left (account 49 0) (account 50 4) 0 (replicate 8 blankTransfer))
+    (shows 49 0 ∷ shows 50 4 ∷ [])
+unfolding val limit halves orderOf allDigits digitsAfter decimal amountIf readOf compareOf zeros every sum prior entryAt entriesFrom lookup soundAs field textIn bytesOf marked parsed amountBy amountOf stateAbsent stateThere aboveZero heldBy balanceRules bit withBit entry nameBytes nameOf blankName blankPlace blankTransfer blankBook placeRecord transferRecord placeAt transferAt balances creditsUnderWay total nameOk wellFormed openPlace setRecord setTransfer creditsIn bytesIn adds acts doing testsOpen testsAct testsBegin testsFinish seen answer next startAnswer startBook
+crossed-worked = (refl, refl, refl)

@@ -1,6 +1,6 @@
 -- DEMAND 3: one claim over every accepted start and every list of steps. Each field quotes the sentence that it states.
 use mathlib.Core.Path.{_≡_}
-use mathlib.Core.Bool.{true, cond}
+use mathlib.Core.Bool.{Bool, true, false, cond}
 use mathlib.Core.Option.{Option, some, none}
 use mathlib.Core.List.{List, [], _∷_, map}
 use Prim.Native.Nat.{ℕ, _+_, _<_}
@@ -8,7 +8,7 @@ use lib.Dec.{eqb}
 use lib.ListN.{take}
 use Rattle.book.specs.Sets.{bit, occurrences}
 use Rattle.book.specs.Book.{credits, nameBytes, wellFormed, placeAt, transferAt, total}
-use Rattle.book.specs.Steps.{Step, Finish, answer, next, startAnswer, startBook, issues, takes, Route, Way, Begins, Ends, Stays, way}
+use Rattle.book.specs.Steps.{Step, Finish, Cancel, answer, next, startAnswer, startBook, issues, takes, Route, Way, Begins, Ends, Stays, way}
 use Rattle.book.specs.Plain.{Holding, Plain, emptyPlain, plainAnswer, plainNext}
 use Rattle.book.specs.declared.Place.{Place}
 use Rattle.book.specs.declared.Transfer.{Transfer}
@@ -49,7 +49,7 @@ taken (s ∷ ss) = takes s + taken ss
 -- what a step makes of the transfers under way
 abbrev pub noted : Way → (ℕ → Option Route) → ℕ → Option Route
 noted (Begins t r) m = λ q. cond (eqb q t) (some r) (m q)
-noted (Ends t) m = λ q. cond (eqb q t) none (m q)
+noted (Ends t back) m = λ q. cond (eqb q t) none (m q)
 noted Stays m = m
 
 abbrev pub underWay : (ℕ → Option Route) → List Step → ℕ → Option Route
@@ -60,6 +60,30 @@ underWay m (s ∷ ss) = underWay (noted (way s) m) ss
 abbrev pub route : Option Transfer → Option Route
 route none = none
 route (some r) = some (record { from = r .from; to = r .to; credits = credits (r .amount) })
+
+-- ---- document 02, request 1: "A cancelled transfer counts as one never begun when the balances are rebuilt from the accepted steps, its
+-- begin and cancel left out"
+
+-- whether the next end of transfer number t in a list is a cancel: d says it of the list behind a step, and a later end of t is another
+-- transfer's, since numbers are used again
+abbrev pub turned : Way → (ℕ → Bool) → ℕ → Bool
+turned (Begins t r) d = d
+turned (Ends t back) d = λ q. cond (eqb q t) back (d q)
+turned Stays d = d
+
+abbrev pub cancelled : List Step → ℕ → Bool
+cancelled [] = λ t. false
+cancelled (s ∷ ss) = turned (way s) (cancelled ss)
+
+-- a begin whose transfer is cancelled behind it, and a cancel
+abbrev pub leftOut : Way → (ℕ → Bool) → Bool
+leftOut (Begins t r) d = d t
+leftOut (Ends t back) d = back
+leftOut Stays d = false
+
+abbrev pub rebuilt : List Step → List Step
+rebuilt [] = []
+rebuilt (s ∷ ss) = cond (leftOut (way s) (cancelled ss)) (rebuilt ss) (s ∷ rebuilt ss)
 
 -- ---- the plain book of the unit u
 
@@ -93,10 +117,12 @@ pub record Sound (b : Book) (a : List Step) : Type 0 where
   -- "the open places' balances plus the credits under way equal what the accepted steps so far issued less what they took"
   pub conserved : total b + taken a ≡ issued a
   -- "the transfers under way, those of the book's set, are the ones that an accepted begin began and no later accepted step, here
-  -- finish, has ended; each one's credits are its begin's amount" (document 01)
+  -- finish, has ended; each one's credits are its begin's amount" (document 01); a cancel ends one as well
   pub under-way : (t : ℕ) → route (transferAt b t) ≡ underWay (λ _. none) a t
   -- "the finish of any transfer under way would be accepted"
   pub finishable : (t : ℕ) → bit (b .pending) t ≡ 1 → answer b (Finish t) ≡ Accepted
+  -- "after every step the finish and the cancel of any transfer under way would be accepted" (document 02, request 2)
+  pub cancellable : (t : ℕ) → bit (b .pending) t ≡ 1 → answer b (Cancel t) ≡ Accepted
   -- "Each step tests 28 first; no step from an accepted start meets it" (document 01)
   pub well-formed : wellFormed b ≡ true
 
@@ -113,13 +139,14 @@ pub record Settled (b : Book) (l : Plain) (order : List ℕ) : Type 0 where
 pub record Demand3 (u : List ℕ) (steps : List Step) : Type 0 where
   -- "at its start and after each of its steps": after the first n of them
   pub throughout : (n : ℕ) → Sound (run (startBook u) (take n steps)) (acceptedOf (startBook u) (take n steps))
-  -- "fed the accepted steps of the list alone in their order, .. and the plain book accepts every one of them"
-  pub plain-accepts : PlainAccepts u emptyPlain (acceptedOf (startBook u) steps)
+  -- "fed the accepted steps of the list alone in their order, .. and the plain book accepts every one of them"; of a cancelled transfer
+  -- none (request 1)
+  pub plain-accepts : PlainAccepts u emptyPlain (rebuilt (acceptedOf (startBook u) steps))
   -- "After the list, in whatever order .."
   pub settles : (order : List ℕ) → EachOnce (run (startBook u) steps) order
-      → Settled (run (startBook u) steps) (plainRun u emptyPlain (acceptedOf (startBook u) steps)) order
+      → Settled (run (startBook u) steps) (plainRun u emptyPlain (rebuilt (acceptedOf (startBook u) steps))) order
 
--- "For every list of these steps (open, act, begin, finish, refused ones among them) from a fresh book, however transfers overlap":
--- "A fresh book is one an accepted start gave" (document 01)
+-- "For every list of these steps (open, act, begin, finish, refused ones among them) from a fresh book, however transfers overlap", with
+-- cancels among them: "A fresh book is one an accepted start gave" (document 01)
 abbrev pub Claim : Type 0
 Claim = (u : List ℕ) → startAnswer u ≡ Accepted → (steps : List Step) → Demand3 u steps

@@ -9,7 +9,7 @@ use Rattle.sheet.specs.Fields.{Sight, subject, balance, amount}
 use Rattle.book.specs.Places.{placeView, closedView}
 use Rattle.sheet.specs.Walk.{sum}
 use Rattle.book.specs.Book.{wholeAmount}
-use Rattle.book.specs.Steps.{Step, Open, Act, Begin, Finish, creditsIn, bytesIn, changed, Seen, testsOf, firstRefusal, after, Way, Begins, Ends, Stays, way}
+use Rattle.book.specs.Steps.{Step, Open, Act, Begin, Finish, Cancel, creditsIn, bytesIn, changed, Seen, testsOf, firstRefusal, after, Way, Begins, Ends, Stays, way}
 use Rattle.book.specs.declared.error.BookOutcome.{BookOutcome}
 
 -- a subject and what it holds: a place as it is compared
@@ -47,7 +47,7 @@ plainSeen u l = record { unit = u; place = λ p. plainView u (l p); busy = λ t.
 -- what ends a transfer is never refused
 abbrev pub unlessEnds : Way → List BookOutcome → List BookOutcome
 unlessEnds (Begins t r) ts = ts
-unlessEnds (Ends t) ts = []
+unlessEnds (Ends t back) ts = []
 unlessEnds Stays ts = ts
 
 -- the others are refused as in the book, by the plain book's own places: without 28 and 21
@@ -73,13 +73,14 @@ abbrev pub plainCredits : Plain → ℕ → ℕ → Plain
 plainCredits l p n = plainPut l p (holds (l p) n)
 
 -- open: the place gets the sheet's subject and balance; act: the amount is added or subtracted; begin: the amount leaves `from`'s
--- balance and joins `to`'s at once; finish: nothing
+-- balance and joins `to`'s at once; finish: nothing. A cancel is not fed to it
 abbrev pub plainEffect : Plain → Step → Plain
 plainEffect l (Open p i) = plainPut l p (some (record { subject = bytesIn subject i; balance = creditsIn balance i }))
 plainEffect l (Act p o i) = plainPut l p (plainActOn o (creditsIn amount i) (l p))
 plainEffect l (Begin f g t i) =
     let m = plainCredits l f (worth (l f) - creditsIn amount i) in plainCredits m g (worth (m g) + creditsIn amount i)
 plainEffect l (Finish t) = l
+plainEffect l (Cancel t) = l
 
 -- a refused one changes nothing
 unfoldable pub plainNext : List ℕ → Plain → Step → Plain

@@ -1,4 +1,5 @@
--- Document 01, section "Book": the steps, which carry their sheets as bytes. The tests in their order, and what an accepted step does.
+-- Document 01, section "Book", and document 02, request 1: the steps, which carry their sheets as bytes. The tests in their order, and what an
+-- accepted step does.
 use mathlib.Core.Bool.{Bool, true, false, not, cond, _&&_, _||_}
 use mathlib.Core.Option.{Option, some, none}
 use mathlib.Core.List.{List, [], _∷_}
@@ -30,6 +31,7 @@ pub data Step : Type 0 where
   Act : (place operation : ℕ) (sheet : List ℕ) → Step
   Begin : (from to transfer : ℕ) (sheet : List ℕ) → Step
   Finish : (transfer : ℕ) → Step
+  Cancel : (transfer : ℕ) → Step
 
 -- ---- what a sheet says
 
@@ -141,7 +143,7 @@ testsBegin s f g t i =
     ∷ checkAt s f (sentTo s g i) 15
     ∷ []
 
--- finish: 22, 23
+-- finish: 22, 23. Request 1: "Cancel takes the transfer number, is met by 22 and 23"
 unfoldable pub testsFinish : Seen → ℕ → List BookOutcome
 testsFinish s t = refusedIf (leb 8 t) OffTheBook ∷ refusedIf (not (s .busy t)) Idle ∷ []
 
@@ -151,6 +153,7 @@ testsOf s (Open p i) = testsOpen s p i
 testsOf s (Act p o i) = testsAct s p o i
 testsOf s (Begin f g t i) = testsBegin s f g t i
 testsOf s (Finish t) = testsFinish s t
+testsOf s (Cancel t) = testsFinish s t
 
 -- ---- the book
 
@@ -191,7 +194,8 @@ raised held v = held + v
 abbrev pub landed : Book → ℕ → ℕ → Book
 landed b t p = setTransfer (setCredits b p (raised (heldAt b p) (credits (transferRecord b t .amount)))) t 0 blankTransfer
 
--- THE EFFECT of an accepted step
+-- THE EFFECT of an accepted step. Request 1: "cancel a transfer under way and see its credits back at the source"; it "frees the number, its
+-- record zeros, as finish does"
 abbrev pub effect : Book → Step → Book
 effect b (Open p i) =
     openPlace b p (setBalance (setSubject blankPlace (nameOf (bytesIn subject i))) (wholeAmount (creditsIn balance i)))
@@ -200,6 +204,7 @@ effect b (Begin f g t i) =
     setTransfer (setCredits b f (lessened (heldAt b f) (creditsIn amount i))) t 1
     (record { from = f; to = g; amount = wholeAmount (creditsIn amount i) })
 effect b (Finish t) = landed b t (transferRecord b t .to)
+effect b (Cancel t) = landed b t (transferRecord b t .from)
 
 -- a refused step changes nothing
 abbrev pub after : {A : Type 0} → BookOutcome → A → A → A
@@ -234,6 +239,7 @@ flow (Open p i) = Issues (creditsIn balance i)
 flow (Act p o i) = actFlow (doing o) (creditsIn amount i)
 flow (Begin f g t i) = Neither
 flow (Finish t) = Neither
+flow (Cancel t) = Neither
 
 abbrev pub inflow : Flow → ℕ
 inflow (Issues n) = n
@@ -259,14 +265,15 @@ pub record Route : Type 0 where
   pub to : ℕ
   pub credits : ℕ
 
--- it begins one, ends one, or neither
+-- it begins one, ends one, whose credits go back or not, or neither
 pub data Way : Type 0 where
   Begins : (transfer : ℕ) (route : Route) → Way
-  Ends : (transfer : ℕ) → Way
+  Ends : (transfer : ℕ) (back : Bool) → Way
   Stays : Way
 
 abbrev pub way : Step → Way
 way (Open p i) = Stays
 way (Act p o i) = Stays
 way (Begin f g t i) = Begins t (record { from = f; to = g; credits = creditsIn amount i })
-way (Finish t) = Ends t
+way (Finish t) = Ends t false
+way (Cancel t) = Ends t true

@@ -21,7 +21,7 @@ use steps::Step;
 use steps::Turn;
 use steps::View;
 
-// The kinds of records. 1 to 4 are the steps, as in a session.
+// The kinds of records. 1 to 5 are the steps, as in a session; those from 16 on are none.
 const START: u8 = 0;
 
 const OPEN: u8 = 1;
@@ -32,11 +32,13 @@ const BEGIN: u8 = 3;
 
 const FINISH: u8 = 4;
 
-const ALTER: u8 = 5;
+const CANCEL: u8 = 5;
 
-const LOOK: u8 = 6;
+const ALTER: u8 = 16;
 
-const RUN: u8 = 7;
+const LOOK: u8 = 17;
+
+const RUN: u8 = 18;
 
 // The largest number of a refusal.
 const LAST: u8 = 28;
@@ -124,6 +126,7 @@ fn step_of(r: &[u8]) -> Entry {
         ACT => Entry::Step(Step::Act(a, b)),
         BEGIN => Entry::Step(Step::Begin(a, b, t)),
         FINISH => Entry::Step(Step::Finish(t)),
+        CANCEL => Entry::Step(Step::Cancel(t)),
         _ => Entry::NoStep,
     }
 }
@@ -137,10 +140,10 @@ fn transfer_at(step: Step) -> usize
     steps::transfer_of(step) as usize % TRANSFERS
 }
 
-fn place_at(step: Step, to: u8) -> usize
+fn place_at(step: Step, from: u8, to: u8) -> usize
     ensures { λ i. ⌜ i < 16 ⌝ }
 {
-    steps::place_of(step, to) as usize % PLACES
+    steps::place_of(step, from, to) as usize % PLACES
 }
 
 fn destination_at(step: Step) -> usize
@@ -156,7 +159,7 @@ fn turn_at(book: Book, step: Step, sheet: &[u8]) -> Turn {
     let transfer = book.transfers[transfer_at(step)];
     let amount = transfer.amount;
     let carried = amount.mantissa;
-    let place = book.places[place_at(step, transfer.to)];
+    let place = book.places[place_at(step, transfer.from, transfer.to)];
     let balance = place.balance;
     let held = balance.mantissa;
     let destination = book.places[destination_at(step)];
@@ -179,7 +182,7 @@ fn turn_at(book: Book, step: Step, sheet: &[u8]) -> Turn {
 fn stored(mut book: Book, step: Step, turn: Turn, sheet: &[u8]) -> Book {
     let left = turn.left;
     let k = transfer_at(step);
-    let i = place_at(step, book.transfers[k].to);
+    let i = place_at(step, book.transfers[k].from, book.transfers[k].to);
     book.places[i].balance.mantissa.hi = left.held.hi;
     book.places[i].balance.mantissa.lo = left.held.lo;
     book.transfers[k].from = left.from;

@@ -1,7 +1,7 @@
 // The book behind C: a book is lent and one step is done in it. Each entry is one call of `lent`, and its proof is tools/proof/hand_on's.
 ghost use mathlib.Core.Path.{_≡_};
 ghost use Rattle.book.specs.Refusals.{bookAnswerOf};
-ghost use Rattle.book.specs.Steps.{Open, Act, Begin, Finish, answer, next, startAnswer, startBook};
+ghost use Rattle.book.specs.Steps.{Open, Act, Begin, Finish, Cancel, answer, next, startAnswer, startBook};
 use book::Book;
 use registry::error::Answer;
 use steps::Step;
@@ -72,4 +72,12 @@ pub extern "C" fn credits_book_finish(book: &mut Book, transfer: u8) -> Answer
         × (now (book .exit) ≡ next (now (book .entry)) (Finish transfer)) ⌝ }
 {
     lent::free_in(book, Step::Finish(transfer))
+}
+
+#[no_mangle]
+pub extern "C" fn credits_book_cancel(book: &mut Book, transfer: u8) -> Answer
+    ensures { λ r. ⌜ (r ≡ bookAnswerOf (answer (now (book .entry)) (Cancel transfer)))
+        × (now (book .exit) ≡ next (now (book .entry)) (Cancel transfer)) ⌝ }
+{
+    lent::free_in(book, Step::Cancel(transfer))
 }

@@ -27,7 +27,7 @@ left-in h k i n x =
     laid h i k (setSubject (setBalance (placeRecord h i) (setMantissa (placeRecord h i .balance) (x .held))) n)
     (setAmount (setTo (setFrom (transferRecord h k) (x .from)) (x .to)) (setMantissa (transferRecord h k .amount) (x .carried))) (x .opened) (x .pending)
 
-module _ (h : Book) (s : Step) {k i : ℕ} (e-k : k ≡ transferOf s) (e-i : i ≡ placeOf s (transferRecord h k .to)) where
+module _ (h : Book) (s : Step) {k i : ℕ} (e-k : k ≡ transferOf s) (e-i : i ≡ placeOf s (transferRecord h k .from) (transferRecord h k .to)) where
   pub shown : {j n : ℕ} {t : Total} → j ≡ destinationOf s → n ≡ length (nameBytes (placeRecord h j .subject)) → t ≡ totalOf h → Shows h s (seen h k i n t)
   shown {j} {n} {t} e-j e-n e-t =
       shows-at h s e-k e-i e-j (t .sum) n (t .sound) e-n (total-sound h t e-t) (λ f. val-of (total-sum h t e-t f))

@@ -18,10 +18,11 @@ pub fn step_in(book: &mut Book, step: Step, sheet: &[u8]) -> Answer
     let total = audit::total_of(*book);
     let k = steps::transfer_of(step) as usize;
     let transfer = &mut book.transfers[k];
+    let from = transfer.from;
     let to = transfer.to;
     let j = steps::destination_of(step) as usize;
     let named = steps::length_of(book.places[j].subject);
-    let i = steps::place_of(step, to) as usize;
+    let i = steps::place_of(step, from, to) as usize;
     let place = &mut book.places[i];
     let view = View {
         held: place.balance.mantissa,
@@ -29,7 +30,7 @@ pub fn step_in(book: &mut Book, step: Step, sheet: &[u8]) -> Answer
         total: total.sum,
         opened: book.opened,
         pending: book.pending,
-        from: transfer.from,
+        from,
         to,
         named,
         sound: total.sound,

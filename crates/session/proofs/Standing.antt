@@ -13,7 +13,7 @@ use lib.ListN.{length, getD, length-append, List·getD-append}
 use borrow.Author.Tests.{ne-eqb}
 use Rattle.sheet.proofs.Tables.{and-right, all-at}
 use Rattle.book.specs.Book.{isSome}
-use Rattle.book.specs.Steps.{Step, Open, Act, Begin, Finish, next}
+use Rattle.book.specs.Steps.{Step, Open, Act, Begin, Finish, Cancel, next}
 use Rattle.book.specs.Claim.{run}
 use Rattle.book.specs.declared.Book.{Book}
 use Rattle.session.specs.Session.{lineCount, lineAt, lineBodyAt, lineBody, stepFits, lineFitsAt, good, stepOf, stepAt, listed, stepsFrom, stepsOf, saidBy, Stand, standAfter, answersFrom, startOf, answersOf, bookOf, noAnswer}
@@ -31,16 +31,20 @@ use Rattle.session.proofs.Walking.{good-count, good-fits}
 -- an entry that fits is one
 fits-step : (l : Line) (i : List ℕ) → stepFits l ≡ true → isSome (stepOf l i) ≡ true
 unfolding stepOf
-fits-step l i h = go (eqb (l .kind) 1) (eqb (l .kind) 2) (eqb (l .kind) 3) (eqb (l .kind) 4) h
+fits-step l i h = go (eqb (l .kind) 1) (eqb (l .kind) 2) (eqb (l .kind) 3) (eqb (l .kind) 4) (eqb (l .kind) 5) h
   where
-    go : (t₁ t₂ t₃ t₄ : Bool)
-        → cond t₁ (eqb (l .b) 0 && eqb (l .t) 0) (cond t₂ (eqb (l .t) 0) (cond t₃ true (cond t₄ (eqb (l .a) 0 && eqb (l .b) 0 && eqb (l .len) 0) false))) ≡ true
-        → isSome (cond t₁ (some (Open (l .a) i)) (cond t₂ (some (Act (l .a) (l .b) i)) (cond t₃ (some (Begin (l .a) (l .b) (l .t) i)) (cond t₄ (some (Finish (l .t))) none)))) ≡ true
-    go true t₂ t₃ t₄ e = refl
-    go false true t₃ t₄ e = refl
-    go false false true t₄ e = refl
-    go false false false true e = refl
-    go false false false false e = absurd (false≢true e)
+    alone : Bool
+    alone = eqb (l .a) 0 && eqb (l .b) 0 && eqb (l .len) 0
+
+    go : (t₁ t₂ t₃ t₄ t₅ : Bool)
+        → cond t₁ (eqb (l .b) 0 && eqb (l .t) 0) (cond t₂ (eqb (l .t) 0) (cond t₃ true (cond t₄ alone (cond t₅ alone false)))) ≡ true
+        → isSome (cond t₁ (some (Open (l .a) i)) (cond t₂ (some (Act (l .a) (l .b) i)) (cond t₃ (some (Begin (l .a) (l .b) (l .t) i)) (cond t₄ (some (Finish (l .t))) (cond t₅ (some (Cancel (l .t))) none))))) ≡ true
+    go true t₂ t₃ t₄ t₅ e = refl
+    go false true t₃ t₄ t₅ e = refl
+    go false false true t₄ t₅ e = refl
+    go false false false true t₅ e = refl
+    go false false false false true e = refl
+    go false false false false false e = absurd (false≢true e)
 
 pub later-step : (s : List ℕ) → good s ≡ true → (k : ℕ) → 1 ≤ k → k < lineCount s → isSome (stepAt s k) ≡ true
 later-step s g k h l =

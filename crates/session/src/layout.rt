@@ -62,6 +62,7 @@ pub(crate) fn step_of(l: Line) -> Entry
         2 => Entry::Step(Step::Act(l.a, l.b)),
         3 => Entry::Step(Step::Begin(l.a, l.b, l.t)),
         4 => Entry::Step(Step::Finish(l.t)),
+        5 => Entry::Step(Step::Cancel(l.t)),
         _ => Entry::NoStep,
     }
 }
@@ -123,8 +124,8 @@ fn open_fits(l: Line) -> bool
     l.t == 0
 }
 
-// A finish uses t alone, and has no body.
-fn finish_fits(l: Line) -> bool
+// A finish and a cancel use t alone, and have no body.
+fn end_fits(l: Line) -> bool
     ensures { λ r. ⌜ r ≡ eqb (l .a) 0 && eqb (l .b) 0 && eqb (l .len) 0 ⌝ }
 {
     if l.a != 0 {
@@ -145,7 +146,8 @@ fn step_fits(l: Line) -> bool
         1 => open_fits(l),
         2 => l.t == 0,
         3 => true,
-        4 => finish_fits(l),
+        4 => end_fits(l),
+        5 => end_fits(l),
         _ => false,
     }
 }

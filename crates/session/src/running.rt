@@ -90,8 +90,9 @@ fn do_steps(s: &[u8], given: Book, first: u16, n: u16, total: Total) -> Run
         };
         let body = layout::body(s, l);
         let k = steps::transfer_of(step) as usize;
+        let from = book.transfers[k].from;
         let to = book.transfers[k].to;
-        let i = steps::place_of(step, to) as usize;
+        let i = steps::place_of(step, from, to) as usize;
         let g = steps::destination_of(step) as usize;
         let destination = book.places[g];
         let unit = book.unit;
@@ -107,7 +108,7 @@ fn do_steps(s: &[u8], given: Book, first: u16, n: u16, total: Total) -> Run
             total: sum,
             opened: book.opened,
             pending: book.pending,
-            from: book.transfers[k].from,
+            from,
             to,
             named: steps::length_of(destination.subject),
             sound: total.sound,

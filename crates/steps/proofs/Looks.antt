@@ -18,18 +18,21 @@ transfer-low (Code.Open p) e = omega (arith, e)
 transfer-low (Code.Act p o) e = omega (arith, e)
 transfer-low (Code.Begin f g t) e = omega (arith, e)
 transfer-low (Code.Finish t) e = omega (arith, e)
+transfer-low (Code.Cancel t) e = omega (arith, e)
 
-pub place-low : (s : Step) (to : ℕ) {i : ℕ} → i ≡ placeOf s to → i < 16
-place-low (Code.Open p) to e = omega (arith, e)
-place-low (Code.Act p o) to e = omega (arith, e)
-place-low (Code.Begin f g t) to e = omega (arith, e)
-place-low (Code.Finish t) to e = omega (arith, e)
+pub place-low : (s : Step) (from to : ℕ) {i : ℕ} → i ≡ placeOf s from to → i < 16
+place-low (Code.Open p) from to e = omega (arith, e)
+place-low (Code.Act p o) from to e = omega (arith, e)
+place-low (Code.Begin f g t) from to e = omega (arith, e)
+place-low (Code.Finish t) from to e = omega (arith, e)
+place-low (Code.Cancel t) from to e = omega (arith, e)
 
 pub destination-low : (s : Step) {g : ℕ} → g ≡ destinationOf s → g < 16
 destination-low (Code.Open p) e = omega (arith, e)
 destination-low (Code.Act p o) e = omega (arith, e)
 destination-low (Code.Begin f g t) e = omega (arith, e)
 destination-low (Code.Finish t) e = omega (arith, e)
+destination-low (Code.Cancel t) e = omega (arith, e)
 
 -- read at transfer k and place i, with m the length of the destination's subject, n the total, and t whether the book is sound
 abbrev pub seenAt : Book → (k i : ℕ) → Uint128 → (m : ℕ) → Bool → View
@@ -46,9 +49,9 @@ seenAt b k i n m t =
       sound = t;
     }
 
-module _ (b : Book) (s : Step) {k i : ℕ} (at-k : k ≡ transferOf s) (at-i : i ≡ placeOf s (transferRecord b k .to)) where
+module _ (b : Book) (s : Step) {k i : ℕ} (at-k : k ≡ transferOf s) (at-i : i ≡ placeOf s (transferRecord b k .from) (transferRecord b k .to)) where
   pub at-spot : i ≡ spot b s
-  at-spot = at-i ∙ ap (λ (j : ℕ). placeOf s (transferRecord b j .to)) at-k
+  at-spot = at-i ∙ ap (λ (j : ℕ). placeOf s (transferRecord b j .from) (transferRecord b j .to)) at-k
 
   pub shows-at : {g : ℕ} → g ≡ destinationOf s → (n : Uint128) (m : ℕ) (t : Bool) → m ≡ length (nameBytes (placeRecord b g .subject)) → t ≡ wellFormed b
       → (wellFormed b ≡ true → val n ≡ total b) → Shows b s (seenAt b k i n m t)

@@ -1,5 +1,5 @@
 -- What an accepted step of each kind leaves, stored, is its effect; and what the code needs to know of it, on any book value.
-use mathlib.Core.Path.{_≡_, refl, ap, _∙_}
+use mathlib.Core.Path.{_≡_, refl, sym, ap, _∙_}
 use mathlib.Core.Bool.{Bool, true, false, _||_, true≢false}
 use mathlib.Core.List.{List}
 use Prim.Native.Nat.{ℕ, _+_, _-_, _%_, _^_, _≤_, _<_}
@@ -14,16 +14,16 @@ use Rattle.amount.proofs.Halves.{wrapped-sum}
 use Rattle.registry.specs.Refusals.{zeroAmount}
 use Rattle.sheet.specs.Fields.{subject, balance, amount}
 use Rattle.book.specs.Sets.{withBit}
-use Rattle.book.specs.Book.{transferRecord, placeAt, isSome, credits, total, wellFormed, blankTransfer, openPlace, setRecord, setTransfer}
-use Rattle.book.specs.Steps.{Open, Act, Begin, Finish, creditsIn, bytesIn, adds, doing, changed, refusedIf, afterCheck, Seen, seen, answer, effect, heldAt, issues, takes}
+use Rattle.book.specs.Book.{placeRecord, transferRecord, placeAt, isSome, credits, total, wellFormed, blankTransfer, openPlace, setRecord, setTransfer}
+use Rattle.book.specs.Steps.{Open, Act, Begin, creditsIn, bytesIn, adds, doing, changed, refusedIf, afterCheck, Seen, seen, testsOf, testsFinish, answer, landed, effect, heldAt, flow, Neither, issues, takes}
 use Rattle.book.specs.declared.Book.{Book}
 use Rattle.book.specs.declared.error.BookError.the-variants.{TooMuch}
 use Rattle.book.specs.declared.error.BookOutcome.the-variants.{Accepted}
 use Rattle.book.proofs.Facts.{Finishes, finishes, acts-so, begins, Opens, opens, accepted-tests}
 use Rattle.book.proofs.Formed.{Formed, formed}
-use Rattle.book.proofs.Views.{transfer-raw, home-open, open-lt}
+use Rattle.book.proofs.Views.{transfer-raw, home, home-open, open-lt}
 use Rattle.book.proofs.Effects.{held-part, carried-part}
-use Rattle.steps.specs.Turn.{shortName, Shows, stored, acceptedWith}
+use Rattle.steps.specs.Turn.{withSheet, ending, shortName, Shows, storedAt, stored, acceptedWith}
 use Rattle.steps.specs.declared.step.Step.the-variants as Code
 use Rattle.steps.specs.declared.step.View.{View}
 use Rattle.audit.proofs.Sums.{place-in}
@@ -48,41 +48,72 @@ abbrev pub moving : View → Uint128 → Uint128 → ℕ → ℕ → ℕ → Vie
 moving x h c f g k =
     record { held = h; carried = c; total = x .total; opened = x .opened; pending = k; from = f; to = g; named = x .named; sound = x .sound }
 
--- ---- finish
+-- ---- finish and cancel
 
-module _ (b : Book) (t : ℕ) (h : answer b (Finish t) ≡ Accepted) (w : b .opened < 2 ^ 16) where
+-- what they share: the tests, that they issue and take nothing, and, with the end where the credits land, what they look at, store and do
+module _ (t : ℕ) (i : List ℕ) where
+  pub ending-tests : (back : Bool) (s : Seen) → testsOf s (withSheet (ending t back) i) ≡ testsFinish s t
+  ending-tests true s = refl
+  ending-tests false s = refl
+
+  pub ending-flow : (back : Bool) → flow (withSheet (ending t back) i) ≡ Neither
+  ending-flow true = refl
+  ending-flow false = refl
+
+  ending-looks : (back : Bool) {b : Book} {x : View} → Shows b (ending t back) x
+      → (x .held ≡ placeRecord b (home back (transferRecord b (t % 8)) % 16) .balance .mantissa) × (x .carried ≡ transferRecord b (t % 8) .amount .mantissa)
+  ending-looks true v = (v .held, v .carried)
+  ending-looks false v = (v .held, v .carried)
+
+  ending-stored : (back : Bool) (b : Book) (y : View)
+      → let p = home back (transferRecord b (t % 8)) % 16 in stored b (ending t back) i (acceptedWith y) ≡ storedAt b p (t % 8) (placeRecord b p .subject) y
+  ending-stored true b y = refl
+  ending-stored false b y = refl
+
+  ending-lands : (back : Bool) (b : Book) → effect b (withSheet (ending t back) i) ≡ landed b t (home back (transferRecord b t))
+  ending-lands true b = refl
+  ending-lands false b = refl
+
+module _ (b : Book) (t : ℕ) (i : List ℕ) (back : Bool) (h : answer b (withSheet (ending t back) i) ≡ Accepted) (w : b .opened < 2 ^ 16) where
+  formed-28 : wellFormed b ≡ true
+  formed-28 = accepted-tests b (withSheet (ending t back) i) h .0
+
   facts : Finishes (seen b) t
-  facts = finishes (seen b) t (accepted-tests b (Finish t) h .1)
+  facts = finishes (seen b) t (rw (← ending-tests t i back (seen b)) (accepted-tests b (withSheet (ending t back) i) h .1))
 
-  sound : Formed b
-  sound = formed b (accepted-tests b (Finish t) h .0)
+  -- where the credits land
+  abbrev end : ℕ
+  end = home back (transferRecord b t)
 
-  abbrev to : ℕ
-  to = transferRecord b t .to
-
-  to-here : isSome (placeAt b to) ≡ true
+  end-here : isSome (placeAt b end) ≡ true
   unfolding seen
-  to-here = home-open b (transferRecord b t) false (rw (transfer-raw b t (facts .moving) .1) at (sound .transfers t (facts .low)))
+  end-here = home-open b (transferRecord b t) back (rw (transfer-raw b t (facts .moving) .1) at (formed b formed-28 .transfers t (facts .low)))
 
-  to-low : to < 16
-  to-low = open-lt b w to to-here
+  end-low : end < 16
+  end-low = open-lt b w end end-here
 
-  fits : heldAt b to + credits (transferRecord b t .amount) < limit
+  fits : heldAt b end + credits (transferRecord b t .amount) < limit
   unfolding seen total
-  fits = omega (arith, sound .fits, held-part b sound to to-low to-here, carried-part b sound t (facts .low) (facts .moving))
+  fits =
+      let f : Formed b = formed b formed-28 in
+      omega (arith, f .fits, held-part b f end end-low end-here, carried-part b f t (facts .low) (facts .moving))
 
-  pub stored-finish : (i : List ℕ) (x : View) (m : Uint128) (n : ℕ) → Shows b (Code.Finish t) x
+  pub stored-end : (x : View) (m : Uint128) (n : ℕ) → Shows b (ending t back) x
       → m ≡ halves ((val (x .held) + val (x .carried)) % limit) → n ≡ withBit (x .pending) (t % 8) 0
-      → stored b (Code.Finish t) i (acceptedWith (moving x m (zeroAmount .mantissa) 0 0 n)) ≡ effect b (Finish t)
+      → stored b (ending t back) i (acceptedWith (moving x m (zeroAmount .mantissa) 0 0 n)) ≡ effect b (withSheet (ending t back) i)
   unfolding setTransfer setRecord blankTransfer
-  stored-finish i x m n v e k =
+  stored-end x m n v e k =
       let same : t % 8 ≡ t = mod-eq-of-lt (facts .low) in
-      let there : to % 16 ≡ to = mod-eq-of-lt to-low in
-      let held : val (x .held) ≡ heldAt b to = ap val (v .held) ∙ rw (same, there) in
-      let carried : val (x .carried) ≡ credits (transferRecord b t .amount) = ap val (v .carried) ∙ rw same in
-      let sum : m ≡ halves (heldAt b to + credits (transferRecord b t .amount)) = wrapped-sum _ _ (e ∙ rw (held, carried)) fits in
-      stored-whole b _ _ _ _ (accepted-tests b (Finish t) h .0) (place-low (Code.Finish t) _ refl) (transfer-low (Code.Finish t) refl)
-      ∙ rw (sum, k, v .opened, v .pending, same, there)
+      let there : end % 16 ≡ end = mod-eq-of-lt end-low in
+      let looks = ending-looks t i back v in
+      let held : val (x .held) ≡ heldAt b end = ap val (looks .0) ∙ rw (same, there) in
+      let carried : val (x .carried) ≡ credits (transferRecord b t .amount) = ap val (looks .1) ∙ rw same in
+      let sum : m ≡ halves (heldAt b end + credits (transferRecord b t .amount)) = wrapped-sum _ _ (e ∙ rw (held, carried)) fits in
+      let y : View = moving x m (zeroAmount .mantissa) 0 0 n in
+      let stores : storedAt b end t (placeRecord b end .subject) y ≡ landed b t end =
+      stored-whole b end t _ y formed-28 end-low (facts .low) ∙ rw (sum, k, v .opened, v .pending, same) in
+      ending-stored t i back b y ∙ (let z : storedAt b (home back (transferRecord b (t % 8)) % 16) (t % 8) (placeRecord b (home back (transferRecord b (t % 8)) % 16) .subject) y ≡ landed b t end = rw (same, there) stores in z)
+      ∙ sym (ending-lands t i back b)
 
 -- ---- act
 
@@ -117,7 +148,7 @@ module _ (b : Book) (p o : ℕ) (i : List ℕ) (h : answer b (Act p o i) ≡ Acc
       let low = acts-so (seen b) p o i (accepted-tests b (Act p o i) h .1) .low in
       let sound = accepted-tests b (Act p o i) h .0 in
       let same : p % 16 ≡ p = mod-eq-of-lt low in
-      stored-whole b _ _ _ _ sound (place-low (Code.Act p o) 0 refl) (transfer-low (Code.Act p o) refl)
+      stored-whole b _ _ _ _ sound (place-low (Code.Act p o) 0 0 refl) (transfer-low (Code.Act p o) refl)
       ∙ rw (carried-back v sound, e, v .opened, v .pending, same)
 
 -- ---- open
@@ -133,7 +164,7 @@ module _ (b : Book) (p : ℕ) (i : List ℕ) (h : answer b (Open p i) ≡ Accept
   stored-open x m n k v e q =
       let sound = accepted-tests b (Open p i) h .0 in
       let same : p % 16 ≡ p = mod-eq-of-lt (opens-so .low) in
-      stored-whole b _ _ _ _ sound (place-low (Code.Open p) 0 refl) (transfer-low (Code.Open p) refl)
+      stored-whole b _ _ _ _ sound (place-low (Code.Open p) 0 0 refl) (transfer-low (Code.Open p) refl)
       ∙ rw (carried-back v sound, e, q, v .opened, v .pending, same, le-leb (length (bytesIn subject i)) 32 (opens-so .short))
 
 -- ---- begin
@@ -157,5 +188,5 @@ module _ (b : Book) (f g t : ℕ) (i : List ℕ) (h : answer b (Begin f g t i) �
       let facts = begins (seen b) f g t i (accepted-tests b (Begin f g t i) h .1) in
       let same : t % 8 ≡ t = mod-eq-of-lt (facts .low-number) in
       let there : f % 16 ≡ f = mod-eq-of-lt (facts .low-from) in
-      stored-whole b _ _ _ _ (accepted-tests b (Begin f g t i) h .0) (place-low (Code.Begin f g t) 0 refl) (transfer-low (Code.Begin f g t) refl)
+      stored-whole b _ _ _ _ (accepted-tests b (Begin f g t i) h .0) (place-low (Code.Begin f g t) 0 0 refl) (transfer-low (Code.Begin f g t) refl)
       ∙ rw (e, d, q, v .opened, v .pending, same, there)

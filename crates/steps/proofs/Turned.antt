@@ -77,6 +77,7 @@ silent (Code.Open p) n h = h
 silent (Code.Act p o) n h = refl
 silent (Code.Begin f g t) n h = refl
 silent (Code.Finish t) n h = refl
+silent (Code.Cancel t) n h = refl
 
 -- ---- a refusal
 

@@ -17,7 +17,7 @@ use Rattle.registry.specs.declared.error.Answer.{Answer}
 use Rattle.book.specs.Book.{nameBytes, nameOf, blankName, placeRecord, transferRecord, total, wellFormed}
 use Rattle.book.specs.Claim.{keep, issued, taken}
 use Rattle.book.specs.Refusals.{bookAnswerOf}
-use Rattle.book.specs.Steps.{Step, Open, Act, Begin, Finish, bytesIn, answer, next}
+use Rattle.book.specs.Steps.{Step, Open, Act, Begin, Finish, Cancel, bytesIn, answer, next}
 use Rattle.book.specs.declared.Book.{Book}
 use Rattle.book.specs.declared.Name.{Name}
 use Rattle.steps.specs.declared.step.Step.{Step as Kind}
@@ -32,6 +32,12 @@ withSheet (Code.Open p) i = Open p i
 withSheet (Code.Act p o) i = Act p o i
 withSheet (Code.Begin f g t) i = Begin f g t i
 withSheet (Code.Finish t) i = Finish t
+withSheet (Code.Cancel t) i = Cancel t
+
+-- the end of transfer t, whose credits go back or not
+abbrev pub ending : ℕ → Bool → Kind
+ending t true = Code.Cancel t
+ending t false = Code.Finish t
 
 -- the transfer that it looks at, and the place; 0 where it looks at none. The remainder keeps it on the book
 abbrev pub transferOf : Kind → ℕ
@@ -39,12 +45,14 @@ transferOf (Code.Open p) = 0
 transferOf (Code.Act p o) = 0
 transferOf (Code.Begin f g t) = t % 8
 transferOf (Code.Finish t) = t % 8
+transferOf (Code.Cancel t) = t % 8
 
-abbrev pub placeOf : Kind → (to : ℕ) → ℕ
-placeOf (Code.Open p) to = p % 16
-placeOf (Code.Act p o) to = p % 16
-placeOf (Code.Begin f g t) to = f % 16
-placeOf (Code.Finish t) to = to % 16
+abbrev pub placeOf : Kind → (from to : ℕ) → ℕ
+placeOf (Code.Open p) from to = p % 16
+placeOf (Code.Act p o) from to = p % 16
+placeOf (Code.Begin f g t) from to = f % 16
+placeOf (Code.Finish t) from to = to % 16
+placeOf (Code.Cancel t) from to = from % 16
 
 -- the place whose subject it looks at
 abbrev pub destinationOf : Kind → ℕ
@@ -52,10 +60,11 @@ destinationOf (Code.Open p) = 0
 destinationOf (Code.Act p o) = 0
 destinationOf (Code.Begin f g t) = g % 16
 destinationOf (Code.Finish t) = 0
+destinationOf (Code.Cancel t) = 0
 
 -- the same in a book
 abbrev pub spot : Book → Kind → ℕ
-spot b s = placeOf s (transferRecord b (transferOf s) .to)
+spot b s = placeOf s (transferRecord b (transferOf s) .from) (transferRecord b (transferOf s) .to)
 
 -- a text as a name; none of over 32 bytes
 unfoldable pub shortName : List ℕ → Name
@@ -67,6 +76,7 @@ writesSubject (Code.Open p) number = eqb number 0
 writesSubject (Code.Act p o) number = false
 writesSubject (Code.Begin f g t) number = false
 writesSubject (Code.Finish t) number = false
+writesSubject (Code.Cancel t) number = false
 
 -- the subject of the place after it: its sheet's
 abbrev pub subjectAfter : Kind → ℕ → Name → List ℕ → Name
@@ -78,6 +88,7 @@ amountNamed (Code.Open p) = balance
 amountNamed (Code.Act p o) = amount
 amountNamed (Code.Begin f g t) = amount
 amountNamed (Code.Finish t) = 0
+amountNamed (Code.Cancel t) = 0
 
 -- what its sheet asks; where it reads no amount, what any kind that went by it would refuse
 abbrev pub nothingAsked : Asked

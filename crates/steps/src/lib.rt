@@ -3,7 +3,7 @@
 // what it leaves. The contracts cite the definitions that the overlap claim of `book` is about.
 mod act;
 mod begin;
-mod finish;
+mod land;
 mod names;
 mod open;
 mod sets;

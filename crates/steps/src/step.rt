@@ -19,6 +19,7 @@ pub enum Step {
     Act(u8, u8),
     Begin(u8, u8, u8),
     Finish(u8),
+    Cancel(u8),
 }
 
 // What a step looks at and may alter, in words: what one place holds, one transfer's ends and amount, the two sets, the total, and whether
@@ -53,18 +54,20 @@ pub fn transfer_of(step: Step) -> u8
         Step::Act(_, _) => 0,
         Step::Begin(_, _, t) => t % TRANSFERS,
         Step::Finish(t) => t % TRANSFERS,
+        Step::Cancel(t) => t % TRANSFERS,
     }
 }
 
-// The place that it may alter, where the transfer that it looks at goes to `to`.
-pub fn place_of(step: Step, to: u8) -> u8
-    ensures { λ r. ⌜ r ≡ placeOf step to ⌝ }
+// The place that it may alter, where the transfer that it looks at goes from `source` to `to`.
+pub fn place_of(step: Step, source: u8, to: u8) -> u8
+    ensures { λ r. ⌜ r ≡ placeOf step source to ⌝ }
 {
     match step {
         Step::Open(p) => p % PLACES,
         Step::Act(p, _) => p % PLACES,
         Step::Begin(from, _, _) => from % PLACES,
         Step::Finish(_) => to % PLACES,
+        Step::Cancel(_) => source % PLACES,
     }
 }
 
@@ -77,6 +80,7 @@ pub fn destination_of(step: Step) -> u8
         Step::Act(_, _) => 0,
         Step::Begin(_, to, _) => to % PLACES,
         Step::Finish(_) => 0,
+        Step::Cancel(_) => 0,
     }
 }
 
@@ -145,6 +149,7 @@ fn writes_subject(step: Step, number: u8) -> bool
         Step::Act(_, _) => false,
         Step::Begin(_, _, _) => false,
         Step::Finish(_) => false,
+        Step::Cancel(_) => false,
     }
 }
 

@@ -4,7 +4,7 @@ ghost use Rattle.book.specs.declared.Book.{Book};
 ghost use Rattle.steps.specs.Turn.{amountNamed, askedOf, Shows, Turned};
 use crate::act;
 use crate::begin;
-use crate::finish;
+use crate::land;
 use crate::open;
 use crate::step::Step;
 use crate::step::Turn;
@@ -32,7 +32,8 @@ pub fn take_turn(step: Step, was: View, unit: Name, sheet: &[u8]) -> Turn
         Step::Open(place) => open::open(was, asked, unit, place, sheet),
         Step::Act(place, operation) => act::act(was, asked, place, operation, sheet),
         Step::Begin(from, to, transfer) => begin::begin(was, asked, from, to, transfer),
-        Step::Finish(transfer) => finish::finish(was, transfer),
+        Step::Finish(transfer) => land::land(was, transfer),
+        Step::Cancel(transfer) => land::land(was, transfer),
     }
 }
 
@@ -45,6 +46,7 @@ fn amount_of(step: Step) -> u8
         Step::Act(_, _) => sheet::AMOUNT,
         Step::Begin(_, _, _) => sheet::AMOUNT,
         Step::Finish(_) => NO_NAME,
+        Step::Cancel(_) => NO_NAME,
     }
 }
 

@@ -219,7 +219,7 @@ module _ {M : Type 1} (𝓤 : URA M) (H : Heap 𝓤) (A : Atoms 𝓤) (W : Given
   abbrev Met : Answer → Book → Type 0
   Met a h′ = (a ≡ bookAnswerOf (answer h (withSheet st (s .now)))) × (h′ ≡ next h (withSheet st (s .now)))
 
-  ends : (k i j n : ℕ) (t : Total) (z : Turn) (w : Name) {a : Answer} → k ≡ transferOf st → i ≡ placeOf st (to k) → j ≡ destinationOf st → n ≡ length (nameBytes (subject j)) → t ≡ totalOf h
+  ends : (k i j n : ℕ) (t : Total) (z : Turn) (w : Name) {a : Answer} → k ≡ transferOf st → i ≡ placeOf st (from-end k) (to k) → j ≡ destinationOf st → n ≡ length (nameBytes (subject j)) → t ≡ totalOf h
       → Takes (seen h k i n t) z → w ≡ subjectAfter st (z .number) (subject i) (s .now) → a ≡ answerIn z → Met a (left-in h k i w (z .left))
   ends k i j n t z w e-k e-i e-j e-n e-t met e-w e-a =
       let m = met h (shown h st e-k e-i e-j e-n e-t) refl in
@@ -248,68 +248,68 @@ module _ {M : Type 1} (𝓤 : URA M) (H : Heap 𝓤) (A : Atoms 𝓤) (W : Given
           move ! (60 ∷ 61 ∷ 62 ∷ 0 ∷ 2 ∷ 4 ∷ 6 ∷ 8 ∷ 10 ∷ 12 ∷ 14 ∷ 16 ∷ 18 ∷ 20 ∷ 22 ∷ 24 ∷ 26 ∷ 28 ∷ 30 ∷ 32 ∷ 34 ∷ 36 ∷ 38 ∷ 40 ∷ 42 ∷ 44 ∷ 46 ∷ 48 ∷ 50 ∷ 52 ∷ 54 ∷ 56 ∷ 58 ∷ []) $ open-ref ! tt (mem T.the-row) {b = b} {o = o} $
           knows ! (book-kind W) (all-of W b o h) (λ was.
           -- [the book; the open borrow; obs; auth; the locals, last first; their ends; what the slice owns, three times; true; its token]
-          fills ! 18 (part-of (book-kind W) ! 32 refl (stop !) 0 (all-of W b o h) refl) refl (book-kind W .typed h was) $
-          calls-plain total.ended (total.clauses 𝓤 H A at-mem run) ! fm (known .total) ((tt, tt, tt, (h, tt), (book-kind W .val h ∷ [], tt)), tt) (arg (book-kind W) h was ∷ []) (id⊢ 𝓤 _) (total-kind W) (λ y. y ≡ totalOf h) (λ y ws. id⊢ 𝓤 _) (and-then ! (value ! 19 refl) (no-more !)) (λ tot e-tot is-tot.
+          fills ! 17 (part-of (book-kind W) ! 32 refl (stop !) 0 (all-of W b o h) refl) refl (book-kind W .typed h was) $
+          calls-plain total.ended (total.clauses 𝓤 H A at-mem run) ! fm (known .total) ((tt, tt, tt, (h, tt), (book-kind W .val h ∷ [], tt)), tt) (arg (book-kind W) h was ∷ []) (id⊢ 𝓤 _) (total-kind W) (λ y. y ≡ totalOf h) (λ y ws. id⊢ 𝓤 _) (and-then ! (value ! 18 refl) (no-more !)) (λ tot e-tot is-tot.
           land ! (from ! (stop !)) (init ! 29 refl (total-kind W .typed tot is-tot)) $
-          -- transfer k, and its end `to`
+          -- transfer k, and its ends
           calls-plain transfer.ended (transfer.clauses 𝓤 H A at-mem run) ! fm (known .transfer) ((tt, tt, tt, (st, tt), (step-kind W .val st ∷ [], tt)), tt) (arg (step-kind W) st is-step ∷ []) (id⊢ 𝓤 _) (number-kind W w8) (λ y. y ≡ transferOf st) (λ y ws. id⊢ 𝓤 _) (and-then ! (value ! 32 refl) (no-more !)) (λ k e-k is-k.
-          land ! (from ! (stop !)) (init ! 17 refl (number-kind W w8 .typed k is-k)) $
-          fills ! 28 (un ! (value ! 17 refl) (record { fits = omega (arith, transfer-low st e-k) })) refl (tt, record { fits = omega (arith, transfer-low st e-k) }) $
-          fills ! 16 (bin ! (value ! 28 refl) (lit ! tt) (record { fits = omega (arith, transfer-low st e-k) })) refl (tt, record { fits = omega (arith, transfer-low st e-k) }) $
-          fills ! 15 (addr ! (from ! (hop ! (look ! 32 refl) (fld ! {d = 1064} refl (stop !))))) refl (tt, tt) $
-          fills ! 14 (bin ! (value ! 15 refl) (value ! 16 refl) tt) refl (tt, tt) $
-          fills ! 27 (addr ! (from ! (hop ! (look ! 14 refl) (stop !)))) refl (tt, tt) $
+          land ! (from ! (stop !)) (init ! 16 refl (number-kind W w8 .typed k is-k)) $
+          fills ! 28 (un ! (value ! 16 refl) (record { fits = omega (arith, transfer-low st e-k) })) refl (tt, record { fits = omega (arith, transfer-low st e-k) }) $
+          fills ! 15 (bin ! (value ! 28 refl) (lit ! tt) (record { fits = omega (arith, transfer-low st e-k) })) refl (tt, record { fits = omega (arith, transfer-low st e-k) }) $
+          fills ! 14 (addr ! (from ! (hop ! (look ! 32 refl) (fld ! {d = 1064} refl (stop !))))) refl (tt, tt) $
+          fills ! 13 (bin ! (value ! 14 refl) (value ! 15 refl) tt) refl (tt, tt) $
+          fills ! 27 (addr ! (from ! (hop ! (look ! 13 refl) (stop !)))) refl (tt, tt) $
           knows ! (transfer-kind W) (of-transfer W b o h k (transfer-low st e-k)) (λ is-r.
-          fills ! 26 (part-of (number-kind W w8) ! 27 refl (fld ! {d = 1} refl (stop !)) 0 (of-to W b o h k (transfer-low st e-k)) refl) refl (number-kind W w8 .typed (to k) (to-is k is-r)) $
+          fills ! 26 (part-of (number-kind W w8) ! 27 refl (fld ! {d = 0} refl (stop !)) 0 (of-from W b o h k (transfer-low st e-k)) refl) refl (number-kind W w8 .typed (from-end k) (from-is k is-r)) $
+          fills ! 25 (part-of (number-kind W w8) ! 27 refl (fld ! {d = 1} refl (stop !)) 0 (of-to W b o h k (transfer-low st e-k)) refl) refl (number-kind W w8 .typed (to k) (to-is k is-r)) $
           -- place j, and the length of its subject
           calls-plain destination.ended (destination.clauses 𝓤 H A at-mem run) ! fm (known .destination) ((tt, tt, tt, (st, tt), (step-kind W .val st ∷ [], tt)), tt) (arg (step-kind W) st is-step ∷ []) (id⊢ 𝓤 _) (number-kind W w8) (λ y. y ≡ destinationOf st) (λ y ws. id⊢ 𝓤 _) (and-then ! (value ! 32 refl) (no-more !)) (λ j e-j is-j.
-          land ! (from ! (stop !)) (store ! 17 refl (number-kind W w8 .typed j is-j)) $
-          fills ! 25 (un ! (value ! 17 refl) (record { fits = omega (arith, destination-low st e-j) })) refl (tt, record { fits = omega (arith, destination-low st e-j) }) $
-          refills ! 16 (bin ! (value ! 25 refl) (lit ! tt) (record { fits = omega (arith, destination-low st e-j) })) refl (tt, record { fits = omega (arith, destination-low st e-j) }) $
-          fills ! 13 (addr ! (from ! (hop ! (look ! 32 refl) (fld ! {d = 40} refl (stop !))))) refl (tt, tt) $
-          fills ! 12 (bin ! (value ! 13 refl) (value ! 16 refl) tt) refl (tt, tt) $
+          land ! (from ! (stop !)) (store ! 16 refl (number-kind W w8 .typed j is-j)) $
+          fills ! 24 (un ! (value ! 16 refl) (record { fits = omega (arith, destination-low st e-j) })) refl (tt, record { fits = omega (arith, destination-low st e-j) }) $
+          refills ! 15 (bin ! (value ! 24 refl) (lit ! tt) (record { fits = omega (arith, destination-low st e-j) })) refl (tt, record { fits = omega (arith, destination-low st e-j) }) $
+          fills ! 12 (addr ! (from ! (hop ! (look ! 32 refl) (fld ! {d = 40} refl (stop !))))) refl (tt, tt) $
+          fills ! 11 (bin ! (value ! 12 refl) (value ! 15 refl) tt) refl (tt, tt) $
           knows ! (name-kind W) (of-subject W b o h j (destination-low st e-j)) (λ is-s.
-          fills ! 11 (part-of (name-kind W) ! 12 refl (fld ! {d = 0} refl (stop !)) 0 (of-subject W b o h j (destination-low st e-j)) refl) refl (name-kind W .typed (subject j) is-s) $
-          calls-plain len.ended (len.clauses 𝓤 H A at-mem run) ! fm (known .len) ((tt, tt, tt, ((subject j), tt), (name-kind W .val (subject j) ∷ [], tt)), tt) (arg (name-kind W) (subject j) is-s ∷ []) (id⊢ 𝓤 _) (number-kind W w8) (λ y. y ≡ length (nameBytes (subject j))) (λ y ws. id⊢ 𝓤 _) (and-then ! (value ! 12 refl) (no-more !)) (λ n e-n is-n.
-          land ! (from ! (stop !)) (init ! 24 refl (number-kind W w8 .typed n is-n)) $
+          fills ! 10 (part-of (name-kind W) ! 11 refl (fld ! {d = 0} refl (stop !)) 0 (of-subject W b o h j (destination-low st e-j)) refl) refl (name-kind W .typed (subject j) is-s) $
+          calls-plain len.ended (len.clauses 𝓤 H A at-mem run) ! fm (known .len) ((tt, tt, tt, ((subject j), tt), (name-kind W .val (subject j) ∷ [], tt)), tt) (arg (name-kind W) (subject j) is-s ∷ []) (id⊢ 𝓤 _) (number-kind W w8) (λ y. y ≡ length (nameBytes (subject j))) (λ y ws. id⊢ 𝓤 _) (and-then ! (value ! 11 refl) (no-more !)) (λ n e-n is-n.
+          land ! (from ! (stop !)) (init ! 23 refl (number-kind W w8 .typed n is-n)) $
           -- place i
-          calls-plain place.ended (place.clauses 𝓤 H A at-mem run) ! fm (known .place) ((tt, tt, tt, (st, ((to k), tt)), (step-kind W .val st ∷ [], (number-kind W w8 .val (to k) ∷ [], tt))), tt) (arg (step-kind W) st is-step ∷ arg (number-kind W w8) (to k) (to-is k is-r) ∷ []) (id⊢ 𝓤 _) (number-kind W w8) (λ y. y ≡ placeOf st (to k)) (λ y ws. id⊢ 𝓤 _) (and-then ! (value ! 32 refl) (and-then ! (value ! 27 refl) (no-more !))) (λ i e-i is-i.
-          land ! (from ! (stop !)) (store ! 17 refl (number-kind W w8 .typed i is-i)) $
-          fills ! 23 (un ! (value ! 17 refl) (record { fits = omega (arith, place-low st (to k) e-i) })) refl (tt, record { fits = omega (arith, place-low st (to k) e-i) }) $
-          refills ! 16 (bin ! (value ! 23 refl) (lit ! tt) (record { fits = omega (arith, place-low st (to k) e-i) })) refl (tt, record { fits = omega (arith, place-low st (to k) e-i) }) $
-          fills ! 10 (addr ! (from ! (hop ! (look ! 32 refl) (fld ! {d = 40} refl (stop !))))) refl (tt, tt) $
-          fills ! 9 (bin ! (value ! 10 refl) (value ! 16 refl) tt) refl (tt, tt) $
-          fills ! 22 (addr ! (from ! (hop ! (look ! 9 refl) (stop !)))) refl (tt, tt) $
-          knows ! (place-kind W) (of-place W b o h i (place-low st (to k) e-i)) (λ is-x.
+          calls-plain place.ended (place.clauses 𝓤 H A at-mem run) ! fm (known .place) ((tt, tt, tt, (st, (from-end k, (to k, tt))), (step-kind W .val st ∷ [], (number-kind W w8 .val (from-end k) ∷ [], (number-kind W w8 .val (to k) ∷ [], tt)))), tt) (arg (step-kind W) st is-step ∷ arg (number-kind W w8) (from-end k) (from-is k is-r) ∷ arg (number-kind W w8) (to k) (to-is k is-r) ∷ []) (id⊢ 𝓤 _) (number-kind W w8) (λ y. y ≡ placeOf st (from-end k) (to k)) (λ y ws. id⊢ 𝓤 _) (and-then ! (value ! 32 refl) (and-then ! (value ! 27 refl) (and-then ! (value ! 26 refl) (no-more !)))) (λ i e-i is-i.
+          land ! (from ! (stop !)) (store ! 16 refl (number-kind W w8 .typed i is-i)) $
+          fills ! 22 (un ! (value ! 16 refl) (record { fits = omega (arith, place-low st (from-end k) (to k) e-i) })) refl (tt, record { fits = omega (arith, place-low st (from-end k) (to k) e-i) }) $
+          refills ! 15 (bin ! (value ! 22 refl) (lit ! tt) (record { fits = omega (arith, place-low st (from-end k) (to k) e-i) })) refl (tt, record { fits = omega (arith, place-low st (from-end k) (to k) e-i) }) $
+          fills ! 9 (addr ! (from ! (hop ! (look ! 32 refl) (fld ! {d = 40} refl (stop !))))) refl (tt, tt) $
+          fills ! 8 (bin ! (value ! 9 refl) (value ! 15 refl) tt) refl (tt, tt) $
+          fills ! 21 (addr ! (from ! (hop ! (look ! 8 refl) (stop !)))) refl (tt, tt) $
+          knows ! (place-kind W) (of-place W b o h i (place-low st (from-end k) (to k) e-i)) (λ is-x.
           -- the view
-          fills ! 8 (part-of (number128-kind W) ! 22 refl (fld ! {d = 40} refl (fld ! {d = 0} refl (stop !))) 0 (of-held W b o h i (place-low st (to k) e-i)) refl) refl (number128-kind W .typed (held i) (held-is i is-x)) $
-          fills ! 7 (part-of (number128-kind W) ! 27 refl (fld ! {d = 8} refl (fld ! {d = 0} refl (stop !))) 0 (of-carried W b o h k (transfer-low st e-k)) refl) refl (number128-kind W .typed (carried k) (carried-is k is-r)) $
-          fills ! 6 (part-of (number-kind W w16) ! 32 refl (fld ! {d = 34} refl (stop !)) 0 (of-opened W b o h) refl) refl (number-kind W w16 .typed (h .opened) (opened-is was)) $
-          refills ! 17 (part-of (number-kind W w8) ! 32 refl (fld ! {d = 36} refl (stop !)) 0 (of-pending W b o h) refl) refl (number-kind W w8 .typed (h .pending) (pending-is was)) $
-          fills ! 5 (part-of (number-kind W w8) ! 27 refl (fld ! {d = 0} refl (stop !)) 0 (of-from W b o h k (transfer-low st e-k)) refl) refl (number-kind W w8 .typed (from-end k) (from-is k is-r)) $
-          fills ! 21 (agg ! (and-then ! (value ! 8 refl) (and-then ! (value ! 7 refl) (and-then ! (copied ! (from ! (fld ! {d = 8} refl (stop !))) (look-in ! 29 (sub ! 1 refl (whole !)))) (and-then ! (value ! 6 refl) (and-then ! (value ! 17 refl) (and-then ! (value ! 5 refl) (and-then ! (value ! 26 refl) (and-then ! (value ! 24 refl) (and-then ! (copied ! (from ! (fld ! {d = 0} refl (stop !))) (look-in ! 29 (sub ! 0 refl (whole !)))) (no-more !))))))))))) refl (view-kind W .typed (seen h k i n tot) (seen-is k i n tot was is-r is-x is-n is-tot)) $
-          refills ! 11 (part-of (name-kind W) ! 32 refl (fld ! {d = 0} refl (stop !)) 0 (of-unit W b o h) refl) refl (name-kind W .typed (h .unit) (unit-is was)) $
+          fills ! 7 (part-of (number128-kind W) ! 21 refl (fld ! {d = 40} refl (fld ! {d = 0} refl (stop !))) 0 (of-held W b o h i (place-low st (from-end k) (to k) e-i)) refl) refl (number128-kind W .typed (held i) (held-is i is-x)) $
+          fills ! 6 (part-of (number128-kind W) ! 27 refl (fld ! {d = 8} refl (fld ! {d = 0} refl (stop !))) 0 (of-carried W b o h k (transfer-low st e-k)) refl) refl (number128-kind W .typed (carried k) (carried-is k is-r)) $
+          fills ! 5 (part-of (number-kind W w16) ! 32 refl (fld ! {d = 34} refl (stop !)) 0 (of-opened W b o h) refl) refl (number-kind W w16 .typed (h .opened) (opened-is was)) $
+          refills ! 16 (part-of (number-kind W w8) ! 32 refl (fld ! {d = 36} refl (stop !)) 0 (of-pending W b o h) refl) refl (number-kind W w8 .typed (h .pending) (pending-is was)) $
+          fills ! 20 (agg ! (and-then ! (value ! 7 refl) (and-then ! (value ! 6 refl) (and-then ! (copied ! (from ! (fld ! {d = 8} refl (stop !))) (look-in ! 29 (sub ! 1 refl (whole !)))) (and-then ! (value ! 5 refl) (and-then ! (value ! 16 refl) (and-then ! (value ! 26 refl) (and-then ! (value ! 25 refl) (and-then ! (value ! 23 refl) (and-then ! (copied ! (from ! (fld ! {d = 0} refl (stop !))) (look-in ! 29 (sub ! 0 refl (whole !)))) (no-more !))))))))))) refl (view-kind W .typed (seen h k i n tot) (seen-is k i n tot was is-r is-x is-n is-tot)) $
+          refills ! 10 (part-of (name-kind W) ! 32 refl (fld ! {d = 0} refl (stop !)) 0 (of-unit W b o h) refl) refl (name-kind W .typed (h .unit) (unit-is was)) $
           -- the turn
           move ! (64 ∷ 68 ∷ []) $
           calls-with turn.ended (turn.clauses 𝓤 H A at-mem run) ! fm (known .turn) (((κ′, tt), (q′, tt), tt, (st, ((seen h k i n tot), (h .unit, (s, tt)))), (step-kind W .val st ∷ [], (view-kind W .val (seen h k i n tot) ∷ [], (name-kind W .val (h .unit) ∷ [], (u ∷ [], tt))))), tt)
-          (arg (step-kind W) st is-step ∷ arg (view-kind W) (seen h k i n tot) (seen-is k i n tot was is-r is-x is-n is-tot) ∷ arg (name-kind W) (h .unit) (unit-is was) ∷ []) Own (‵ (flft κ′ q′) ⊛ ‵ ftrue) (id⊢ 𝓤 _) (id⊢ 𝓤 _) (turn-kind W) (Takes (seen h k i n tot)) (λ z ws. id⊢ 𝓤 _) (and-then ! (value ! 32 refl) (and-then ! (value ! 22 refl) (and-then ! (value ! 12 refl) (and-then ! (value ! 31 refl) (no-more !))))) (λ z met is-z.
+          (arg (step-kind W) st is-step ∷ arg (view-kind W) (seen h k i n tot) (seen-is k i n tot was is-r is-x is-n is-tot) ∷ arg (name-kind W) (h .unit) (unit-is was) ∷ []) Own (‵ (flft κ′ q′) ⊛ ‵ ftrue) (id⊢ 𝓤 _) (id⊢ 𝓤 _) (turn-kind W) (Takes (seen h k i n tot)) (λ z ws. id⊢ 𝓤 _) (and-then ! (value ! 32 refl) (and-then ! (value ! 21 refl) (and-then ! (value ! 11 refl) (and-then ! (value ! 31 refl) (no-more !))))) (λ z met is-z.
           -- [the slice's token; the book; the open borrow; ..]
-          land ! (from ! (stop !)) (init ! 21 refl (turn-kind W .typed z is-z)) $
-          fills ! 20 (of-opd ! (copied ! (from ! (fld ! {d = 24} refl (stop !))) (look-in ! 21 (sub ! 3 refl (whole !))))) refl (view-kind W .typed (z .left) (left-is z is-z)) $
+          land ! (from ! (stop !)) (init ! 20 refl (turn-kind W .typed z is-z)) $
+          fills ! 19 (of-opd ! (copied ! (from ! (fld ! {d = 24} refl (stop !))) (look-in ! 20 (sub ! 3 refl (whole !))))) refl (view-kind W .typed (z .left) (left-is z is-z)) $
           rewrite ! 1 (λ (w : Book). ‵ (partAt T.the-row fullShare w b o)) (sym (laid-back h i k)) refl $
-          puts-part (number128-kind W) ! (of-opd ! (copied ! (from ! (fld ! {d = 0} refl (stop !))) (look-in ! 20 (sub ! 0 refl (whole !))))) 23 refl (fld ! {d = 40} refl (fld ! {d = 0} refl (stop !))) 1 (at-held W b o h i k (placeRecord h i) (transferRecord h k) (h .opened) (h .pending) (z .left .held) (place-low st (to k) e-i)) (LL.owed Vw.the-type Vw′.the-laws (z .left) _ (left-is z is-z) .0) refl $
-          puts-part (number-kind W w8) ! (of-opd ! (copied ! (from ! (fld ! {d = 51} refl (stop !))) (look-in ! 20 (sub ! 5 refl (whole !))))) 28 refl (fld ! {d = 0} refl (stop !)) 1 (at-from W b o h i k (x₁ i z) (transferRecord h k) (h .opened) (h .pending) (z .left .from) (transfer-low st e-k)) (LL.owed Vw.the-type Vw′.the-laws (z .left) _ (left-is z is-z) .1 .1 .1 .1 .1 .0) refl $
-          puts-part (number-kind W w8) ! (of-opd ! (copied ! (from ! (fld ! {d = 52} refl (stop !))) (look-in ! 20 (sub ! 6 refl (whole !))))) 28 refl (fld ! {d = 1} refl (stop !)) 1 (at-to W b o h i k (x₁ i z) (r₁ k z) (h .opened) (h .pending) (z .left .to) (transfer-low st e-k)) (LL.owed Vw.the-type Vw′.the-laws (z .left) _ (left-is z is-z) .1 .1 .1 .1 .1 .1 .0) refl $
-          puts-part (number128-kind W) ! (of-opd ! (copied ! (from ! (fld ! {d = 16} refl (stop !))) (look-in ! 20 (sub ! 1 refl (whole !))))) 28 refl (fld ! {d = 8} refl (fld ! {d = 0} refl (stop !))) 1 (at-carried W b o h i k (x₁ i z) (r₂ k z) (h .opened) (h .pending) (z .left .carried) (transfer-low st e-k)) (LL.owed Vw.the-type Vw′.the-laws (z .left) _ (left-is z is-z) .1 .0) refl $
-          puts-part (number-kind W w16) ! (of-opd ! (copied ! (from ! (fld ! {d = 48} refl (stop !))) (look-in ! 20 (sub ! 3 refl (whole !))))) 33 refl (fld ! {d = 34} refl (stop !)) 1 (at-opened W b o h i k (x₁ i z) (r₃ k z) (h .opened) (h .pending) (z .left .opened)) (LL.owed Vw.the-type Vw′.the-laws (z .left) _ (left-is z is-z) .1 .1 .1 .0) refl $
-          puts-part (number-kind W w8) ! (of-opd ! (copied ! (from ! (fld ! {d = 50} refl (stop !))) (look-in ! 20 (sub ! 4 refl (whole !))))) 33 refl (fld ! {d = 36} refl (stop !)) 1 (at-pending W b o h i k (x₁ i z) (r₃ k z) (z .left .opened) (h .pending) (z .left .pending)) (LL.owed Vw.the-type Vw′.the-laws (z .left) _ (left-is z is-z) .1 .1 .1 .1 .0) refl $
-          fills ! 5 (part-of (name-kind W) ! 23 refl (fld ! {d = 0} refl (stop !)) 1 (at-subject W b o h i k (x₁ i z) (r₃ k z) (z .left .opened) (z .left .pending) (subject i) (place-low st (to k) e-i)) refl) refl (name-kind W .typed (subject i) (subject-is i is-x)) $
+          puts-part (number128-kind W) ! (of-opd ! (copied ! (from ! (fld ! {d = 0} refl (stop !))) (look-in ! 19 (sub ! 0 refl (whole !))))) 22 refl (fld ! {d = 40} refl (fld ! {d = 0} refl (stop !))) 1 (at-held W b o h i k (placeRecord h i) (transferRecord h k) (h .opened) (h .pending) (z .left .held) (place-low st (from-end k) (to k) e-i)) (LL.owed Vw.the-type Vw′.the-laws (z .left) _ (left-is z is-z) .0) refl $
+          puts-part (number-kind W w8) ! (of-opd ! (copied ! (from ! (fld ! {d = 51} refl (stop !))) (look-in ! 19 (sub ! 5 refl (whole !))))) 28 refl (fld ! {d = 0} refl (stop !)) 1 (at-from W b o h i k (x₁ i z) (transferRecord h k) (h .opened) (h .pending) (z .left .from) (transfer-low st e-k)) (LL.owed Vw.the-type Vw′.the-laws (z .left) _ (left-is z is-z) .1 .1 .1 .1 .1 .0) refl $
+          puts-part (number-kind W w8) ! (of-opd ! (copied ! (from ! (fld ! {d = 52} refl (stop !))) (look-in ! 19 (sub ! 6 refl (whole !))))) 28 refl (fld ! {d = 1} refl (stop !)) 1 (at-to W b o h i k (x₁ i z) (r₁ k z) (h .opened) (h .pending) (z .left .to) (transfer-low st e-k)) (LL.owed Vw.the-type Vw′.the-laws (z .left) _ (left-is z is-z) .1 .1 .1 .1 .1 .1 .0) refl $
+          puts-part (number128-kind W) ! (of-opd ! (copied ! (from ! (fld ! {d = 16} refl (stop !))) (look-in ! 19 (sub ! 1 refl (whole !))))) 28 refl (fld ! {d = 8} refl (fld ! {d = 0} refl (stop !))) 1 (at-carried W b o h i k (x₁ i z) (r₂ k z) (h .opened) (h .pending) (z .left .carried) (transfer-low st e-k)) (LL.owed Vw.the-type Vw′.the-laws (z .left) _ (left-is z is-z) .1 .0) refl $
+          puts-part (number-kind W w16) ! (of-opd ! (copied ! (from ! (fld ! {d = 48} refl (stop !))) (look-in ! 19 (sub ! 3 refl (whole !))))) 33 refl (fld ! {d = 34} refl (stop !)) 1 (at-opened W b o h i k (x₁ i z) (r₃ k z) (h .opened) (h .pending) (z .left .opened)) (LL.owed Vw.the-type Vw′.the-laws (z .left) _ (left-is z is-z) .1 .1 .1 .0) refl $
+          puts-part (number-kind W w8) ! (of-opd ! (copied ! (from ! (fld ! {d = 50} refl (stop !))) (look-in ! 19 (sub ! 4 refl (whole !))))) 33 refl (fld ! {d = 36} refl (stop !)) 1 (at-pending W b o h i k (x₁ i z) (r₃ k z) (z .left .opened) (h .pending) (z .left .pending)) (LL.owed Vw.the-type Vw′.the-laws (z .left) _ (left-is z is-z) .1 .1 .1 .1 .0) refl $
+          fills ! 5 (part-of (name-kind W) ! 22 refl (fld ! {d = 0} refl (stop !)) 1 (at-subject W b o h i k (x₁ i z) (r₃ k z) (z .left .opened) (z .left .pending) (subject i) (place-low st (from-end k) (to k) e-i)) refl) refl (name-kind W .typed (subject i) (subject-is i is-x)) $
           move ! (65 ∷ []) $
           calls-with after.ended (after.clauses 𝓤 H A at-mem run) ! fm (known .after) (((κ′, tt), (q′, tt), tt, (st, (z .number, ((subject i), (s, tt)))), (step-kind W .val st ∷ [], (number-kind W w8 .val (z .number) ∷ [], (name-kind W .val (subject i) ∷ [], (u ∷ [], tt))))), tt)
-          (arg (step-kind W) st is-step ∷ arg (number-kind W w8) (z .number) (number-is z is-z) ∷ arg (name-kind W) (subject i) (subject-is i is-x) ∷ []) Own (‵ (flft κ′ q′) ⊛ ‵ ftrue) (id⊢ 𝓤 _) (id⊢ 𝓤 _) (name-kind W) (λ w. w ≡ subjectAfter st (z .number) (subject i) (s .now)) (λ w ws. id⊢ 𝓤 _) (and-then ! (value ! 32 refl) (and-then ! (copied ! (from ! (fld ! {d = 0} refl (stop !))) (look-in ! 21 (sub ! 0 refl (whole !)))) (and-then ! (value ! 5 refl) (and-then ! (value ! 31 refl) (no-more !))))) (λ w e-w is-w.
-          land ! (from ! (stop !)) (store ! 12 refl (name-kind W .typed w is-w)) $
-          puts-part (name-kind W) ! (of-opd ! (value ! 12 refl)) 23 refl (fld ! {d = 0} refl (stop !)) 1 (at-subject W b o h i k (x₁ i z) (r₃ k z) (z .left .opened) (z .left .pending) w (place-low st (to k) e-i)) is-w refl $
-          calls-plain reply.ended (reply.clauses 𝓤 H A at-mem run) ! fm (known .reply) ((tt, tt, tt, (z, tt), (turn-kind W .val z ∷ [], tt)), tt) (arg (turn-kind W) z is-z ∷ []) (id⊢ 𝓤 _) (answer-kind W) (λ y. y ≡ answerIn z) (λ y ws. id⊢ 𝓤 _) (and-then ! (value ! 22 refl) (no-more !)) (λ a e-a is-a.
+          (arg (step-kind W) st is-step ∷ arg (number-kind W w8) (z .number) (number-is z is-z) ∷ arg (name-kind W) (subject i) (subject-is i is-x) ∷ []) Own (‵ (flft κ′ q′) ⊛ ‵ ftrue) (id⊢ 𝓤 _) (id⊢ 𝓤 _) (name-kind W) (λ w. w ≡ subjectAfter st (z .number) (subject i) (s .now)) (λ w ws. id⊢ 𝓤 _) (and-then ! (value ! 32 refl) (and-then ! (copied ! (from ! (fld ! {d = 0} refl (stop !))) (look-in ! 20 (sub ! 0 refl (whole !)))) (and-then ! (value ! 5 refl) (and-then ! (value ! 31 refl) (no-more !))))) (λ w e-w is-w.
+          land ! (from ! (stop !)) (store ! 11 refl (name-kind W .typed w is-w)) $
+          puts-part (name-kind W) ! (of-opd ! (value ! 11 refl)) 22 refl (fld ! {d = 0} refl (stop !)) 1 (at-subject W b o h i k (x₁ i z) (r₃ k z) (z .left .opened) (z .left .pending) w (place-low st (from-end k) (to k) e-i)) is-w refl $
+          calls-plain reply.ended (reply.clauses 𝓤 H A at-mem run) ! fm (known .reply) ((tt, tt, tt, (z, tt), (turn-kind W .val z ∷ [], tt)), tt) (arg (turn-kind W) z is-z ∷ []) (id⊢ 𝓤 _) (answer-kind W) (λ y. y ≡ answerIn z) (λ y ws. id⊢ 𝓤 _) (and-then ! (value ! 21 refl) (no-more !)) (λ a e-a is-a.
           land ! (from ! (stop !)) (init ! 34 refl (answer-kind W .typed a is-a)) $
           move ! (1 ∷ 2 ∷ 3 ∷ 4 ∷ []) $ close-ref ! tt (mem T.the-row) (left-in h k i w (z .left)) {b = b} {o = o} $
           returns ! (look ! 33 refl) $ move ! (33 ∷ 63 ∷ 32 ∷ 62 ∷ 31 ∷ 61 ∷ 30 ∷ 60 ∷ 29 ∷ 59 ∷ 28 ∷ 58 ∷ 27 ∷ 57 ∷ 26 ∷ 56 ∷ 25 ∷ 55 ∷ 24 ∷ 54 ∷ 23 ∷ 53 ∷ 22 ∷ 52 ∷ 21 ∷ 51 ∷ 20 ∷ 50 ∷ 19 ∷ 49 ∷ 18 ∷ 48 ∷ 17 ∷ 47 ∷ 16 ∷ 46 ∷ 15 ∷ 45 ∷ 14 ∷ 44 ∷ 13 ∷ 43 ∷ 12 ∷ 42 ∷ 11 ∷ 41 ∷ 10 ∷ 40 ∷ 9 ∷ 39 ∷ 8 ∷ 38 ∷ 7 ∷ 37 ∷ 6 ∷ 36 ∷ 5 ∷ 35 ∷ 4 ∷ 34 ∷ []) $

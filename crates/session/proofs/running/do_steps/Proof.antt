@@ -53,7 +53,7 @@ low-transfer : (c : tie.After-transfer-of Inv-loop μ-loop) → c .transfer-of .
 low-transfer c = transfer-low (its-step c) (c .transfer-of .ensures)
 
 low-place : (c : tie.After-place-of Inv-loop μ-loop) → c .place-of .result < 16
-low-place c = place-low (its-step (c .before)) _ (c .place-of .ensures)
+low-place c = place-low (its-step (c .before)) _ _ (c .place-of .ensures)
 
 loop-holds : tie.Need-loop-holds Inv-loop μ-loop
 loop-holds c =
@@ -79,26 +79,26 @@ returns c =
     (never-none _ _ (e .before .line-at .ensures) (e .step-of .ensures) (v .1) (omega (arith, v .2)) (omega (arith, v .3, r .loop-test .taken))
     (c .enum-told .given .1))
 
+element-copy-out-from : tie.Need-element-copy-out-from Inv-loop μ-loop
+element-copy-out-from c = low-transfer c
+
 element-copy-out-to : tie.Need-element-copy-out-to Inv-loop μ-loop
 element-copy-out-to c = low-transfer c
 
 element-copy-out-destination : tie.Need-element-copy-out-destination Inv-loop μ-loop
 element-copy-out-destination c = destination-low (its-step (c .before .before)) (c .destination-of .ensures)
 
-element-copy-out-t41 : tie.Need-element-copy-out-t41 Inv-loop μ-loop
-element-copy-out-t41 c = low-place (c .before .before .before)
-
 element-copy-out-t44 : tie.Need-element-copy-out-t44 Inv-loop μ-loop
 element-copy-out-t44 c = low-place (c .before .before .before)
 
-element-copy-out-t49 : tie.Need-element-copy-out-t49 Inv-loop μ-loop
-element-copy-out-t49 c = low-transfer (c .before .before .before .before)
+element-copy-out-t47 : tie.Need-element-copy-out-t47 Inv-loop μ-loop
+element-copy-out-t47 c = low-place (c .before .before .before)
 
-element-copy-out-t53 : tie.Need-element-copy-out-t53 Inv-loop μ-loop
-element-copy-out-t53 c = low-transfer (c .before .before .before .before)
+element-copy-out-t52 : tie.Need-element-copy-out-t52 Inv-loop μ-loop
+element-copy-out-t52 c = low-transfer (c .before .before .before .before)
 
-element-copy-out-t59 : tie.Need-element-copy-out-t59 Inv-loop μ-loop
-element-copy-out-t59 c = low-transfer (c .before .before .before .before)
+element-copy-out-t56 : tie.Need-element-copy-out-t56 Inv-loop μ-loop
+element-copy-out-t56 c = low-transfer (c .before .before .before .before)
 
 way-write-given-book : tie.Need-way-write-given-book Inv-loop μ-loop
 way-write-given-book c = (low-place (c .before .before .before .before .before .before), tt, tt, tt)
@@ -178,6 +178,8 @@ do-steps-spec =
     (λ c κs. search needs)
     (λ c. search needs)
     (λ c. search needs)
+    element-copy-out-from
+    (λ c. search needs)
     element-copy-out-to
     (λ c κs. search needs)
     (λ c. search needs)
@@ -186,15 +188,13 @@ do-steps-spec =
     (λ c. search needs)
     element-copy-out-destination
     (λ c. search needs)
-    element-copy-out-t41
-    (λ c. search needs)
     element-copy-out-t44
     (λ c. search needs)
-    element-copy-out-t49
+    element-copy-out-t47
     (λ c. search needs)
-    element-copy-out-t53
+    element-copy-out-t52
     (λ c. search needs)
-    element-copy-out-t59
+    element-copy-out-t56
     (λ c κs. search needs)
     (λ c κs. search needs)
     (λ c. search needs)

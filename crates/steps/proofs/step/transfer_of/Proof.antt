@@ -8,6 +8,9 @@ returns-3 c = rw (c .before .step .given .1)
 returns-4 : tie.Need-returns-4
 returns-4 c = rw (c .before .step2 .given .1)
 
+returns-5 : tie.Need-returns-5
+returns-5 c = rw (c .before .step3 .given .1)
+
 pub transfer-of-spec : {M : Type 1} → statement M
 transfer-of-spec =
     tie.close
@@ -18,5 +21,7 @@ transfer-of-spec =
     (λ c. search needs)
     (λ c. search needs)
     (λ c. search needs)
+    (λ c. search needs)
     returns-3
-    returns-4)
+    returns-4
+    returns-5)

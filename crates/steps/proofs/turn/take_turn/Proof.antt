@@ -5,6 +5,7 @@ use Rattle.book.specs.declared.error.BookError.the-variants.{BadBook}
 use borrow.Author.Tests.{not-true, not-false}
 use Prim.Native.Nat.{ℕ}
 use mathlib.Core.Path.{refl, sym, ap, _∙_}
+use mathlib.Core.Bool.{true, false}
 use borrow.Author.Needs.{needs}
 use Rattle.steps.proofs.turn.take_turn.Statement.{statement}
 use Rattle.steps.proofs.turn.take_turn.Tie as tie
@@ -33,7 +34,12 @@ returns-4 c b v u =
 returns-5 : tie.Need-returns-5
 returns-5 c b v u =
     let sound = sym (v .sound) ∙ not-false _ (c .before .before .before .before .before .before .if1 .left) in
-    arm b _ _ _ (c .before .before .step4 .given .1) (λ w. c .finish .ensures b _ sound w) v
+    arm b _ _ _ (c .before .before .step4 .given .1) (λ w. c .land .ensures b _ false sound w) v
+
+returns-6 : tie.Need-returns-6
+returns-6 c b v u =
+    let sound = sym (v .sound) ∙ not-false _ (c .before .before .before .before .before .before .if1 .left) in
+    arm b _ _ _ (c .before .before .step5 .given .1) (λ w. c .land2 .ensures b _ true sound w) v
 
 pub take-turn-spec : {M : Type 1} → statement M
 take-turn-spec =
@@ -51,7 +57,10 @@ take-turn-spec =
     (λ c κs. search needs)
     (λ c. search needs)
     (λ c κs. search needs)
+    (λ c. search needs)
+    (λ c κs. search needs)
     returns-2
     returns-3
     returns-4
-    returns-5)
+    returns-5
+    returns-6)

@@ -1,12 +1,12 @@
-// The finish of a transfer: its amount joins the destination's balance, and its number is free again.
+// The end of a transfer: its amount lands at the place that the step looks at, the destination of a finish and the source of a cancel, and its
+// number is free again.
 ghost use mathlib.Core.Path.{_≡_};
-ghost use mathlib.Core.Bool.{true};
+ghost use mathlib.Core.Bool.{Bool, true};
 ghost use mathlib.Core.List.{List};
 ghost use Prim.Native.Nat.{ℕ};
 ghost use Rattle.book.specs.Book.{wellFormed};
 ghost use Rattle.book.specs.declared.Book.{Book};
-ghost use Rattle.steps.specs.Turn.{Shows, Turned};
-ghost use Rattle.steps.specs.declared.step.Step.the-variants as Code;
+ghost use Rattle.steps.specs.Turn.{ending, Shows, Turned};
 use crate::sets;
 use crate::step::TRANSFERS;
 use crate::step::Turn;
@@ -17,8 +17,8 @@ use amount::Uint128;
 use book::error;
 
 // Refusal 22: off the book; 23: not under way.
-pub(crate) fn finish(was: View, transfer: u8) -> Turn
-    ensures { λ r. ⌜ ((b : Book) (i : List ℕ) → wellFormed b ≡ true → Shows b (Code.Finish transfer) was → Turned b (Code.Finish transfer) i r) ⌝ }
+pub(crate) fn land(was: View, transfer: u8) -> Turn
+    ensures { λ r. ⌜ ((b : Book) (i : List ℕ) (back : Bool) → wellFormed b ≡ true → Shows b (ending transfer back) was → Turned b (ending transfer back) i r) ⌝ }
 {
     if TRANSFERS <= transfer {
         return refused(was, error::OFF_THE_BOOK, 0);
