@@ -2,7 +2,7 @@
 -- account's sheet after the step.
 use mathlib.Core.Path.{_≡_, refl, sym, ap, _∙_}
 use mathlib.Core.Bool.{Bool, true, false, not}
-use mathlib.Core.Option.{some, none}
+use mathlib.Core.Option.{none}
 use mathlib.Core.List.{List, [], _∷_}
 use Prim.Native.Nat.{ℕ, _+_, _-_, _^_, _<_}
 use native.Mathlib.Decide.{ℕ-discrete}
@@ -33,7 +33,7 @@ use Rattle.resource_state.specs.declared.Next.{Next}
 use Rattle.transition.specs.Credit.{creditOf}
 use Rattle.transition.specs.Written.{bufferAfter}
 use Rattle.book.specs.Places.{putField}
-use Rattle.book.specs.Book.{credits, wholeAmount, nameBytes, nameOf, noPlace, noTransfer, blankTransfer, placeRecord, transferRecord, placeAt, transferAt, isSome, transferOk, openPlace, setRecord, setCredits, setTransfer}
+use Rattle.book.specs.Book.{credits, wholeAmount, nameBytes, nameOf, noPlace, noTransfer, blankTransfer, placeRecord, transferRecord, placeAt, transferAt, isSome, openPlace, setRecord, setCredits, setTransfer}
 use Rattle.book.specs.Steps.{Open, Act, Begin, Finish, Cancel, creditsIn, bytesIn, changed, heldAt, seen, answer, next}
 use Rattle.book.specs.declared.Place.{Place}
 use Rattle.book.specs.declared.Transfer.{Transfer}

@@ -2,7 +2,6 @@
 -- what apply makes of the account as it was seen before, and the destination of a finish as what credit makes.
 use mathlib.Core.Path.{_≡_, refl, _∙_}
 use mathlib.Core.Bool.{Bool, true, not}
-use mathlib.Core.Option.{some}
 use mathlib.Core.List.{List}
 use Prim.Native.Nat.{ℕ, _+_, _-_, _^_, _<_}
 use lib.ListN.{length}
@@ -20,7 +19,7 @@ use Rattle.resource_state.specs.declared.Next.{Next}
 use Rattle.resource_state.specs.declared.Next.the-variants as Next
 use Rattle.transition.specs.Credit.{creditBy}
 use Rattle.book.specs.Places.{placeView}
-use Rattle.book.specs.Book.{credits, wholeAmount, nameBytes, noPlace, placeRecord, transferRecord, placeAt, isSome, transferOk, openPlace, setRecord, setCredits, setTransfer}
+use Rattle.book.specs.Book.{credits, wholeAmount, nameBytes, noPlace, placeRecord, transferRecord, placeAt, isSome, openPlace, setRecord, setCredits, setTransfer}
 use Rattle.book.specs.Steps.{Open, Act, Begin, creditsIn, bytesIn, changed, heldAt, sentTo, seen, answer, next}
 use Rattle.book.specs.declared.Place.{Place}
 use Rattle.book.specs.declared.Transfer.{Transfer}
@@ -29,8 +28,7 @@ use Rattle.book.specs.declared.error.BookOutcome.the-variants.{Accepted}
 use Rattle.book.proofs.Tables.{entry-put, entry-set}
 use Rattle.book.proofs.Names.{name-bytes}
 use Rattle.book.proofs.Facts.{accepted-tests, Opens, opens, Acts, acts-so, Begins, begins}
-use Rattle.book.proofs.Formed.{Formed, formed}
-use Rattle.book.proofs.Views.{place-raw, transfer-raw, open-lt, home-open}
+use Rattle.book.proofs.Views.{place-raw, open-lt}
 use Rattle.book.proofs.Whole.{next-accepted}
 use Rattle.book.proofs.Applies.{Named, made, open-there, view-is, open-is-apply, act-is-apply, begin-is-apply, end-is-credit}
 use Rattle.book.proofs.Endings.{ending, end, Ended, ended}

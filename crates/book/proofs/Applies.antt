@@ -29,10 +29,9 @@ use Rattle.resource_state.specs.declared.Part.{Part}
 use Rattle.resource_state.specs.declared.Part.the-variants.{State, Input}
 use Rattle.resource_state.specs.declared.Next.{Next}
 use Rattle.resource_state.specs.declared.Next.the-variants as Next
-use Rattle.book.specs.Book.{credits, wholeAmount, nameBytes, nameOk, placeRecord, transferRecord, placeAt, transferAt, isSome, transferOk}
+use Rattle.book.specs.Book.{credits, wholeAmount, nameBytes, nameOk, placeRecord, transferRecord, placeAt, isSome}
 use Rattle.book.specs.Steps.{Open, Act, Begin, creditsIn, adds, acts, changed, seen, sentTo, heldAt, answer}
 use Rattle.book.specs.declared.Name.{Name}
-use Rattle.book.specs.declared.Transfer.{Transfer}
 use Rattle.book.specs.declared.Book.{Book}
 use Rattle.book.specs.declared.error.BookOutcome.the-variants.{Accepted}
 use Rattle.book.proofs.Rows.{refused-never, among-all}

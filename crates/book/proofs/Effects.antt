@@ -27,7 +27,7 @@ use Rattle.registry.specs.declared.error.Reading.the-variants.{Given, Failed}
 use Rattle.profiles.specs.Balance.{balanceRules}
 use Rattle.book.specs.Places.{placeView, closedView, putField}
 use Rattle.book.proofs.Accepted.{then-both}
-use Rattle.book.specs.Book.{credits, wholeAmount, nameBytes, placeRecord, transferRecord, placeAt, transferAt, stockOf, carriedBy, balances, creditsUnderWay, total, isSome, wellFormed}
+use Rattle.book.specs.Book.{credits, wholeAmount, nameBytes, placeRecord, transferRecord, placeAt, transferAt, stockOf, carriedBy, balances, creditsUnderWay, total, isSome}
 use Rattle.book.specs.Steps.{Open, Act, Begin, creditsIn, Doing, Issuing, Taking, doing, adds, seen, heldAt, answer}
 use Rattle.book.specs.declared.Book.{Book}
 use Rattle.book.specs.declared.error.BookError.the-variants.{TooMuch}

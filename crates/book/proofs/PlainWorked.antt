@@ -27,7 +27,7 @@ fed = Open 0 (opening 49 53) ∷ Open 1 (opening 50 48) ∷ Begin 0 1 0 five ∷
 abbrev second-fed : List Step
 second-fed = Open 0 (opening 49 53) ∷ Open 1 (opening 50 50) ∷ Act 0 13 (asking 52) ∷ Act 1 12 (allowed 55) ∷ Begin 0 1 2 (asking 54) ∷ []
 
--- the cancelled begin of number 0 is left out, the later one of the same number is fed
+-- of the three transfers by number 0 the one that was finished is fed, not those before and behind it
 abbrev again-fed : List Step
 again-fed = Open 0 (opening 49 53) ∷ Open 1 (opening 50 48) ∷ Begin 0 1 0 (asking 51) ∷ Finish 0 ∷ []
 

@@ -110,13 +110,14 @@ unfolding val limit halves orderOf allDigits digitsAfter decimal amountIf readOf
 second-worked = (refl, refl, refl)
 
 -- ---- document 02, request 1. `N1` holds 5 and sends them by number 0; they are cancelled, and `N1` holds 5 again; a second cancel finds
--- nothing under way; then 3 are sent by the same number, and finished
+-- nothing under way. By the same number 3 are sent, and finished; then 2, and cancelled
 
 abbrev pub again : List Step
 again =
-    Open 0 (opening 49 53) ∷ Open 1 (opening 50 48) ∷ Begin 0 1 0 five ∷ Cancel 0 ∷ Cancel 0 ∷ Begin 0 1 0 (asking 51) ∷ Finish 0 ∷ []
+    Open 0 (opening 49 53) ∷ Open 1 (opening 50 48) ∷ Begin 0 1 0 five ∷ Cancel 0 ∷ Cancel 0 ∷ Begin 0 1 0 (asking 51) ∷ Finish 0
+    ∷ Begin 0 1 0 (asking 50) ∷ Cancel 0 ∷ []
 
-pub again-worked : Worked again (done ∷ done ∷ done ∷ done ∷ numbered 23 0 ∷ done ∷ done ∷ []) (left (account 49 2) (account 50 3) 0 (replicate 8 blankTransfer))
+pub again-worked : Worked again (done ∷ done ∷ done ∷ done ∷ numbered 23 0 ∷ done ∷ done ∷ done ∷ done ∷ []) (left (account 49 2) (account 50 3) 0 (replicate 8 blankTransfer))
     (shows 49 2 ∷ shows 50 3 ∷ [])
 unfolding val limit halves orderOf allDigits digitsAfter decimal amountIf readOf compareOf zeros every sum prior entryAt entriesFrom lookup soundAs field textIn bytesOf marked parsed amountBy amountOf stateAbsent stateThere aboveZero heldBy balanceRules bit withBit entry nameBytes nameOf blankName blankPlace blankTransfer blankBook placeRecord transferRecord placeAt transferAt balances creditsUnderWay total nameOk wellFormed openPlace setRecord setTransfer creditsIn bytesIn adds acts doing testsOpen testsAct testsBegin testsFinish seen answer next startAnswer startBook
 again-worked = (refl, refl, refl)

@@ -58,16 +58,16 @@ pub fn transfer_of(step: Step) -> u8
     }
 }
 
-// The place that it may alter, where the transfer that it looks at goes from `source` to `to`.
-pub fn place_of(step: Step, source: u8, to: u8) -> u8
-    ensures { λ r. ⌜ r ≡ placeOf step source to ⌝ }
+// The place that it may alter, where the transfer that it looks at goes from `from` to `to`.
+pub fn place_of(step: Step, from: u8, to: u8) -> u8
+    ensures { λ r. ⌜ r ≡ placeOf step from to ⌝ }
 {
     match step {
         Step::Open(p) => p % PLACES,
         Step::Act(p, _) => p % PLACES,
-        Step::Begin(from, _, _) => from % PLACES,
+        Step::Begin(p, _, _) => p % PLACES,
         Step::Finish(_) => to % PLACES,
-        Step::Cancel(_) => source % PLACES,
+        Step::Cancel(_) => from % PLACES,
     }
 }
 
