@@ -1,6 +1,6 @@
 -- The turn of a step: what it looks at in a book, what a refusal and an acceptance leave, and that, stored, is the book after the step.
 use mathlib.Core.Path.{_≡_, refl, sym, ap, subst, _∙_}
-use mathlib.Core.Bool.{true, false}
+use mathlib.Core.Bool.{Bool, true, false, false≢true}
 use mathlib.Core.List.{List, [], _∷_}
 use Prim.Native.Nat.{ℕ, zero, suc, _+_, _%_, _<_}
 use native.Mathlib.Nat.{mod-eq-of-lt}
@@ -27,11 +27,13 @@ use Rattle.book.specs.declared.error.BookError.the-variants.{Profile}
 use Rattle.book.specs.declared.error.BookOutcome.the-variants.{Accepted, Refused}
 use Rattle.book.proofs.Formed.{formed}
 use Rattle.steps.proofs.Looks.{transfer-low}
-use Rattle.steps.specs.Turn.{withSheet, transferOf, spot, writesSubject, subjectAfter, Shows, storedAt, stored, wholeOf, answerIn, refusedBy, shortBy, acceptedWith, done, Turned}
+use Rattle.steps.specs.Turn.{withSheet, ending, transferOf, spot, writesSubject, subjectAfter, endedBy, Shows, storedAt, stored, wholeOf, answerIn, refusedBy, shortBy, acceptedWith, done, Turned}
 use Rattle.steps.specs.declared.step.Step.{Step as Kind}
 use Rattle.steps.specs.declared.step.Step.the-variants as Code
 use Rattle.steps.specs.declared.step.View.{View}
 use Rattle.steps.specs.declared.step.Turn.{Turn}
+use Rattle.steps.specs.declared.turn.Ended.{Ended}
+use Rattle.steps.specs.declared.turn.Ended.the-variants as Ended
 
 -- ---- to store what was read alters nothing
 
@@ -147,3 +149,21 @@ stored-whole b p t n x w low low-t = rw (formed b w .whole-places p low .balance
 
 pub arm : (b : Book) (i : List ℕ) (x : View) (r : Turn) {s z : Kind} → s ≡ z → (Shows b z x → Turned b z i r) → Shows b s x → Turned b s i r
 arm b i x r e f = subst (λ (k : Kind). Shows b k x → Turned b k i r) (sym e) f
+
+-- ---- an end
+
+abbrev its-number : Ended → ℕ
+its-number (Ended.Transfer t) = t
+its-number Ended.Nothing = 0
+
+abbrev is-one : Ended → Bool
+is-one (Ended.Transfer t) = true
+is-one Ended.Nothing = false
+
+pub ends : (b : Book) (i : List ℕ) (x : View) (r : Turn) (s : Kind) (t : ℕ) → endedBy s ≡ Ended.Transfer t
+    → ((back : Bool) → Shows b (ending t back) x → Turned b (ending t back) i r) → Shows b s x → Turned b s i r
+ends b i x r (Code.Open p) t e f v = absurd (false≢true (ap is-one e))
+ends b i x r (Code.Act p o) t e f v = absurd (false≢true (ap is-one e))
+ends b i x r (Code.Begin g h u) t e f v = absurd (false≢true (ap is-one e))
+ends b i x r (Code.Finish u) t e f v = arm b i x r (ap Code.Finish (ap its-number e)) (f false) v
+ends b i x r (Code.Cancel u) t e f v = arm b i x r (ap Code.Cancel (ap its-number e)) (f true) v

@@ -10,9 +10,7 @@ use Rattle.amount.specs.declared.Amount.{Amount}
 use Rattle.amount.specs.declared.uint128.Uint128.{Uint128}
 use Rattle.sheet.specs.Fields.{subject, balance, amount}
 use Rattle.registry.specs.Refusals.{zeroAmount}
-use Rattle.registry.specs.Asked.{askedIn}
 use Rattle.registry.specs.Tests.{among}
-use Rattle.registry.specs.declared.asked.Asked.{Asked}
 use Rattle.registry.specs.declared.error.Answer.{Answer}
 use Rattle.book.specs.Book.{nameBytes, nameOf, blankName, placeRecord, transferRecord, total, wellFormed}
 use Rattle.book.specs.Claim.{keep, issued, taken}
@@ -24,6 +22,8 @@ use Rattle.steps.specs.declared.step.Step.{Step as Kind}
 use Rattle.steps.specs.declared.step.Step.the-variants as Code
 use Rattle.steps.specs.declared.step.View.{View}
 use Rattle.steps.specs.declared.step.Turn.{Turn}
+use Rattle.steps.specs.declared.turn.Ended.{Ended}
+use Rattle.steps.specs.declared.turn.Ended.the-variants as Ended
 
 -- ---- a step
 
@@ -82,6 +82,14 @@ writesSubject (Code.Cancel t) number = false
 abbrev pub subjectAfter : Kind → ℕ → Name → List ℕ → Name
 subjectAfter s number old i = cond (writesSubject s number) (shortName (bytesIn subject i)) old
 
+-- the transfer that it ends
+abbrev pub endedBy : Kind → Ended
+endedBy (Code.Open p) = Ended.Nothing
+endedBy (Code.Act p o) = Ended.Nothing
+endedBy (Code.Begin f g t) = Ended.Nothing
+endedBy (Code.Finish t) = Ended.Transfer t
+endedBy (Code.Cancel t) = Ended.Transfer t
+
 -- the name of the amount that it reads of its sheet; no field has the name 0
 abbrev pub amountNamed : Kind → ℕ
 amountNamed (Code.Open p) = balance
@@ -89,13 +97,6 @@ amountNamed (Code.Act p o) = amount
 amountNamed (Code.Begin f g t) = amount
 amountNamed (Code.Finish t) = 0
 amountNamed (Code.Cancel t) = 0
-
--- what its sheet asks; where it reads no amount, what any kind that went by it would refuse
-abbrev pub nothingAsked : Asked
-nothingAsked = record { sound = false; number = 2; detail = 0; amount = zeroAmount .mantissa }
-
-unfoldable pub askedOf : ℕ → List ℕ → Asked
-askedOf name i = cond (eqb name 0) nothingAsked (askedIn name i)
 
 -- the operations of act that name who authorized them
 unfoldable pub authorized : ℕ → Bool
