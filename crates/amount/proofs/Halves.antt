@@ -6,7 +6,6 @@ use borrow.Author.Tests.{lt-leb, eqb-false}
 use Rattle.amount.specs.Numbers.{val, limit, halves, order_of}
 use Rattle.amount.specs.Helpers.{checked, checked_less, tenths, division_of}
 use Rattle.amount.specs.declared.uint128.Uint128.{Uint128}
-use Rattle.amount.specs.declared.uint128.Divided.{Divided}
 use Rattle.amount.specs.declared.uint128.Division.{Division}
 use Rattle.amount.specs.declared.uint128.Ordering.{Ordering}
 use Rattle.amount.specs.declared.uint128.Ordering.TheVariants.{Less, Equal, Greater}

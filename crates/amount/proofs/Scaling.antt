@@ -1,5 +1,5 @@
 -- Laws of scaling by powers of ten: a quotient with what is left, and the order that it shows.
-use Rattle.std.proofs.Common.{◌≡◌, ℕ, ◌+◌, ◌-◌, ◌*◌, ◌/◌, ◌%◌, ◌^◌, ◌<◌, ◌≤◌, Bool, true, false, eqb, sym, refl, ap, ◌∙◌, le_trans, lt_of_lt_of_le, lt_of_le_of_lt, mul-le-mul_right, mod-lt, mod-eq_of_lt, mul_assoc, mul_comm, add-mul, mul-lt-mul_of_pos_right, pow-suc, div-add-mod', sub-add_cancel, div-one, add-one, arith, lit<, lit≤, pow-add, ne_eqb, eqb-true}
+use Rattle.std.proofs.Common.{◌≡◌, ℕ, ◌+◌, ◌-◌, ◌*◌, ◌/◌, ◌%◌, ◌^◌, ◌<◌, ◌≤◌, true, false, sym, refl, ap, ◌∙◌, le_trans, lt_of_lt_of_le, lt_of_le_of_lt, mul-le-mul_right, mod-lt, mod-eq_of_lt, mul_assoc, mul_comm, add-mul, mul-lt-mul_of_pos_right, pow-suc, div-add-mod', sub-add_cancel, div-one, add-one, arith, lit<, lit≤, pow-add, ne_eqb, eqb-true}
 use native.Mathlib.Nat.{one-le-pow, div-div-eq-div-mul, mod-one, pow-le-pow_right, div-eq_of_lt}
 use borrow.Author.Tests.{eqb-false, not-true, not-false}
 use lib.Arith.{mod-mul, lt_of_le-ne}

@@ -1,6 +1,5 @@
 -- Laws of decimal text: the digits of a number read back, and a text cut at its point.
-use Rattle.std.proofs.Common.{◌≡◌, ℕ, zero, suc, ◌+◌, ◌-◌, ◌*◌, ◌/◌, ◌%◌, ◌^◌, ◌<◌, Bool, true, false, ◌&&◌, eqb, leb, List, [], ◌∷◌, ◌++◌, get_or, refl, ◌∙◌, mod-eq_of_lt, mul_assoc, mul_comm, add-mul, pow-suc, div-one, arith, ne_eqb, leb-true}
-use mathlib.Core.Bool.{false≢true}
+use Rattle.std.proofs.Common.{◌≡◌, ℕ, zero, suc, ◌+◌, ◌-◌, ◌*◌, ◌/◌, ◌%◌, ◌^◌, ◌<◌, true, false, eqb, leb, List, [], ◌∷◌, ◌++◌, get_or, refl, ◌∙◌, mod-eq_of_lt, mul_assoc, mul_comm, add-mul, pow-suc, div-one, arith, ne_eqb, leb-true}
 use lib.Arith.{mod-mul}
 use Rattle.amount.specs.Decimal.{is_digit, all_digits, digits_after, decimal}
 use Rattle.amount.specs.Canonical.{last_digits}

@@ -1,5 +1,7 @@
 // Exact decimal amounts: a mantissa of 128 bits and a scale, the port of amount.rs.
 // The value is mantissa / 10^scale. Every scale of a byte is taken; the Rust's constructors stop at 18.
+#![tactic(auto)]
+
 ghost use Rattle.std.specs.Prelude.{◌≡◌, ℕ, ◌+◌, ◌*◌, ◌/◌, ◌%◌, ◌^◌, ◌≤◌, min, max, length, ◌==◌};
 ghost use Rattle.amount.specs.Numbers.{val, order_of};
 ghost use Rattle.amount.specs.Helpers.{checked, word_of, aligned_of, ReducedBy, reverse_of};
@@ -16,14 +18,14 @@ use uint128::{div_rem, mul_add, power_of_ten};
 pub const MAX_MANTISSA_DIGITS: usize = 39;
 
 #[repr(C)]
-#[derive(Drop)]
+#[derive(Clone, Copy)]
 pub struct Amount {
     pub mantissa: Uint128,
     pub scale: u8,
 }
 
 // An amount, or why there is none.
-#[derive(Drop)]
+#[derive(Clone, Copy)]
 pub enum AmountResult {
     Ok(Amount),
     NotWhole,
@@ -34,7 +36,7 @@ pub enum AmountResult {
 // The same for a caller that goes by numbers: 0 and the amount, or the refusal's number and `ZERO`. No refusal of an amount alone has a
 // detail, so it is 0.
 #[repr(C)]
-#[derive(Drop)]
+#[derive(Clone, Copy)]
 pub struct Given {
     pub number: u8,
     pub detail: u8,
@@ -167,7 +169,7 @@ impl Amount {
 const WORD_DIGITS: usize = 19;
 
 // The number of a text of digits, or that it is no such text.
-#[derive(Drop)]
+#[derive(Clone, Copy)]
 enum Word {
     Number(u64),
     NotDigits,
@@ -205,14 +207,14 @@ fn refused(number: u8) -> Given
 }
 
 // Two mantissas at one scale.
-#[derive(Drop)]
+#[derive(Clone, Copy)]
 struct Pair {
     left: Uint128,
     right: Uint128,
     scale: u8,
 }
 
-#[derive(Drop)]
+#[derive(Clone, Copy)]
 enum Aligned {
     At(Pair),
     Outside,
@@ -263,7 +265,7 @@ fn checked_rescale(mantissa: Uint128, places: u8) -> Checked
 }
 
 // A mantissa divided by a power of ten, and whether something was left.
-#[derive(Drop)]
+#[derive(Clone, Copy)]
 struct Reduced {
     quotient: Uint128,
     rest: bool,

@@ -11,7 +11,7 @@ pub const TEXT_BYTES: usize = 257;
 
 // A text: its first `len` bytes. The others are 0.
 #[repr(C)]
-#[derive(Drop)]
+#[derive(Clone, Copy)]
 pub struct Text {
     pub bytes: [u8; TEXT_BYTES],
     pub len: u16,

@@ -6,14 +6,14 @@ ghost use Rattle.amount.specs.Helpers.{checked, checked_less, tenths, division_o
 use std::num::{wrapping_add_u64, wrapping_sub_u64};
 
 #[repr(C)]
-#[derive(Drop)]
+#[derive(Clone, Copy)]
 pub struct Uint128 {
     pub hi: u64,
     pub lo: u64,
 }
 
 // How one value stands to another.
-#[derive(Drop)]
+#[derive(Clone, Copy)]
 pub enum Ordering {
     Less,
     Equal,
@@ -21,21 +21,21 @@ pub enum Ordering {
 }
 
 // A number, or none where it would lie outside 0 to 2^128 - 1.
-#[derive(Drop)]
+#[derive(Clone, Copy)]
 pub enum Checked {
     Some(Uint128),
     None,
 }
 
 // A quotient by ten, and the digit that is left.
-#[derive(Drop)]
+#[derive(Clone, Copy)]
 pub struct Divided {
     pub quotient: Uint128,
     pub digit: u8,
 }
 
 // A quotient, and what is left.
-#[derive(Drop)]
+#[derive(Clone, Copy)]
 pub struct Division {
     pub quotient: Uint128,
     pub rest: u32,
@@ -151,14 +151,14 @@ impl Uint128 {
 }
 
 // A word, and what passes it.
-#[derive(Drop)]
+#[derive(Clone, Copy)]
 struct Wide {
     carry: u32,
     low: u64,
 }
 
 // A word divided, and what is left.
-#[derive(Drop)]
+#[derive(Clone, Copy)]
 struct Part {
     quotient: u64,
     rest: u64,

@@ -2,6 +2,8 @@
 // cases and what must be printed.
 //   MANTISSA SCALE MANTISSA SCALE    order, min, sum, difference and texts of two amounts
 //   rTEXT                            what reading TEXT gives
+#![tactic(auto)]
+
 ghost use Rattle.std.specs.Prelude.{◌<◌, ◌≤◌, length};
 
 use amount::{Amount, AmountResult, Ordering};

@@ -1,4 +1,6 @@
 // Test 28 and the total of a book, on any book value.
+#![tactic(auto)]
+
 mod sets;
 mod totals;
 

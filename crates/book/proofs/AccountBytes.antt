@@ -28,7 +28,6 @@ use Rattle.registry.specs.declared.error.Reading.TheVariants.{Given}
 use Rattle.resource_state.specs.Next.{text_from, sheet_of}
 use Rattle.resource_state.specs.Apply.{balance_next, next_of}
 use Rattle.resource_state.specs.declared.Part.{Part}
-use Rattle.resource_state.specs.declared.Part.TheVariants as Part
 use Rattle.resource_state.specs.declared.Next.{Next}
 use Rattle.transition.specs.Credit.{credit_of}
 use Rattle.transition.specs.Written.{buffer_after}

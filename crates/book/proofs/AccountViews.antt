@@ -16,7 +16,6 @@ use Rattle.resource_state.specs.declared.Part.{Part}
 use Rattle.resource_state.specs.declared.Part.TheVariants.{State, Input}
 use Rattle.resource_state.specs.declared.ResourceState.TheVariants.{FungibleBalance}
 use Rattle.resource_state.specs.declared.Next.{Next}
-use Rattle.resource_state.specs.declared.Next.TheVariants as Next
 use Rattle.transition.specs.Credit.{credit_by}
 use Rattle.book.specs.Places.{place_view}
 use Rattle.book.specs.Book.{credits, whole_amount, name_bytes, no_place, place_record, transfer_record, place_at, is_some, open_place, set_record, set_credits, set_transfer}

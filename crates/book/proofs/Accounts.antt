@@ -16,9 +16,7 @@ use Rattle.sheet.specs.Sheet.{entries_from, lookup, state_of, verdict_of}
 use Rattle.sheet.specs.Fields.{Field, text, figure, field, three, Sight, sight_of, subject, unit, balance, amount, to_subject}
 use Rattle.sheet.specs.declared.Shape.TheVariants.{Input}
 use Rattle.sheet.specs.declared.State.{State}
-use Rattle.sheet.specs.declared.State.TheVariants as State
 use Rattle.sheet.specs.declared.Verdict.{Verdict}
-use Rattle.sheet.specs.declared.Verdict.TheVariants as Verdict
 use Rattle.writer.specs.Encode.{balance_sheet}
 use Rattle.writer.proofs.RoundTrip.{Sized, Back, balance_back}
 use Rattle.registry.specs.Readers.{amount_in}

@@ -13,7 +13,7 @@ use Rattle.sheet.specs.Fields.{field, amount}
 use Rattle.registry.specs.Readers.{amount_in}
 use Rattle.registry.specs.declared.error.Outcome.TheVariants as Check
 use Rattle.profiles.specs.Balance.{balance_rules}
-use Rattle.book.specs.Book.{credits, whole_amount, name_bytes, place_record, place_at, stock_of, total, is_some}
+use Rattle.book.specs.Book.{credits, whole_amount, name_bytes, place_record, place_at, stock_of, is_some}
 use Rattle.book.specs.Steps.{Act, credits_in, Doing, Issuing, Taking, doing, adds, changed, act_on, inflow, outflow, act_flow, said, Seen, after_check, seen, tests_act, first_refusal, held_at}
 use Rattle.book.specs.Plain.{Plain, plain_view, plain_act_on, plain_seen, plain_answer}
 use Rattle.book.specs.Claim.{route, cell, shown}

@@ -2,7 +2,7 @@
 -- after finish what credit writes. So 12, 13, 17, 18 and 20 never arise in a step.
 use mathlib.Core.Path.{◌≡◌, refl, sym, ◌∙◌}
 use mathlib.Core.Bool.{Bool, true, false, not, cond}
-use mathlib.Core.Option.{some, none}
+use mathlib.Core.Option.{none}
 use mathlib.Core.List.{List, [], ◌∷◌}
 use Prim.Native.Nat.{ℕ, ◌+◌, ◌-◌, ◌^◌, ◌<◌, ◌≤◌}
 use native.Mathlib.Omega.{arith}
@@ -28,7 +28,6 @@ use Rattle.transition.specs.Credit.{credit_by}
 use Rattle.resource_state.specs.declared.Part.{Part}
 use Rattle.resource_state.specs.declared.Part.TheVariants.{State, Input}
 use Rattle.resource_state.specs.declared.Next.{Next}
-use Rattle.resource_state.specs.declared.Next.TheVariants as Next
 use Rattle.book.specs.Book.{credits, whole_amount, name_bytes, name_ok, place_record, transfer_record, place_at, is_some}
 use Rattle.book.specs.Steps.{Open, Act, Begin, credits_in, adds, acts, changed, seen, sent_to, held_at, answer}
 use Rattle.book.specs.declared.Name.{Name}

@@ -24,7 +24,7 @@ pub const LONG_NAME: u8 = 27;
 
 pub const BAD_BOOK: u8 = 28;
 
-#[derive(Drop)]
+#[derive(Clone, Copy)]
 pub enum BookError {
     Profile(ProfileError),
     UnderWay,
@@ -38,7 +38,7 @@ pub enum BookError {
 }
 
 // What a step says.
-#[derive(Drop)]
+#[derive(Clone, Copy)]
 pub enum BookOutcome {
     Accepted,
     Refused(BookError),

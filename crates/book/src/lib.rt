@@ -1,5 +1,7 @@
 // The book: 16 places, 8 transfer numbers and one unit, as document 01's section "Book" has it.
 // Integers and arrays only: every pattern of bytes is a book, and test 28 says which are sound.
+#![tactic(auto)]
+
 use amount::Amount;
 
 pub mod error;
@@ -13,14 +15,14 @@ pub const NAME_BYTES: usize = 32;
 
 // A text of at most 32 bytes: the first `len` of `bytes`.
 #[repr(C)]
-#[derive(Drop)]
+#[derive(Clone, Copy)]
 pub struct Name {
     pub bytes: [u8; NAME_BYTES],
     pub len: u8,
 }
 
 #[repr(C)]
-#[derive(Drop)]
+#[derive(Clone, Copy)]
 pub struct Place {
     pub subject: Name,
     pub balance: Amount,
@@ -28,7 +30,7 @@ pub struct Place {
 
 // Credits that have left `from` and have not reached `to`.
 #[repr(C)]
-#[derive(Drop)]
+#[derive(Clone, Copy)]
 pub struct Transfer {
     pub from: u8,
     pub to: u8,
@@ -38,7 +40,7 @@ pub struct Transfer {
 // `opened` is document 01's set of open places, bit p for place p.
 // `pending` is document 01's set of the transfers under way, bit t for transfer t.
 #[repr(C)]
-#[derive(Drop)]
+#[derive(Clone, Copy)]
 pub struct Book {
     pub unit: Name,
     pub opened: u16,

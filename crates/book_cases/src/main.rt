@@ -1,5 +1,7 @@
 // Puts the steps of random lists to the book: standard input is what tools/book_cases.py wrote (it has the records'
 // form), with each answer that is expected and, at a list's end, the book. Then the list goes through the run of a session.
+#![tactic(auto)]
+
 ghost use Rattle.std.specs.Prelude.{◌≡◌, ◌<◌, ◌≤◌, length};
 
 use amount::{Amount, Uint128};
@@ -99,7 +101,7 @@ fn size(r: &[u8]) -> usize
 }
 
 // The step of a record, without its sheet. Another kind is none.
-#[derive(Drop)]
+#[derive(Clone, Copy)]
 enum Entry {
     Step(Step),
     NoStep,
@@ -484,7 +486,7 @@ fn state_after(state: u8, kind: u8, number: u8) -> u8 {
 }
 
 // The number that a record's step answered, 0 where it is none, and the book after the record.
-#[derive(Drop)]
+#[derive(Clone, Copy)]
 struct Done {
     number: u8,
     book: Book,

@@ -8,15 +8,14 @@ use registry::error::Answer;
 use steps::Step;
 
 #[repr(C)]
-#[derive(Drop)]
+#[derive(Clone, Copy)]
 pub struct Started {
     pub answer: Answer,
     pub book: Book,
 }
 
 // A refused start gives a book of zeros.
-#[unsafe(no_mangle)]
-pub extern "C" fn credits_book_start(unit: &[u8]) -> Started
+pub fn credits_book_start(unit: &[u8]) -> Started
     ensures { result ≡ record { answer = book_answer_of (start_answer unit.now); book = start_book unit.now } }
 {
     Started {
@@ -26,58 +25,41 @@ pub extern "C" fn credits_book_start(unit: &[u8]) -> Started
 }
 
 // The bytes of a book, for C to compare with its own.
-#[unsafe(no_mangle)]
-pub extern "C" fn credits_book_size() -> u32
+pub fn credits_book_size() -> u32
     ensures { result ≡ 1320 }
 {
     1320
 }
 
-#[unsafe(no_mangle)]
-pub extern "C" fn credits_book_open(book: &mut Book, place: u8, sheet: &[u8]) -> Answer
+pub fn credits_book_open(book: &mut Book, place: u8, sheet: &[u8]) -> Answer
     ensures { (result ≡ book_answer_of (answer book.old (Open place sheet.now)))
         × (book.new ≡ next book.old (Open place sheet.now)) }
 {
     lent::step_in(book, Step::Open(place), sheet)
 }
 
-#[unsafe(no_mangle)]
-pub extern "C" fn credits_book_act(
-    book: &mut Book,
-    place: u8,
-    operation: u8,
-    sheet: &[u8],
-) -> Answer
+pub fn credits_book_act(book: &mut Book, place: u8, operation: u8, sheet: &[u8]) -> Answer
     ensures { (result ≡ book_answer_of (answer book.old (Act place operation sheet.now)))
         × (book.new ≡ next book.old (Act place operation sheet.now)) }
 {
     lent::step_in(book, Step::Act(place, operation), sheet)
 }
 
-#[unsafe(no_mangle)]
-pub extern "C" fn credits_book_begin(
-    book: &mut Book,
-    from: u8,
-    to: u8,
-    transfer: u8,
-    sheet: &[u8],
-) -> Answer
+pub fn credits_book_begin(book: &mut Book, from: u8, to: u8, transfer: u8, sheet: &[u8]) -> Answer
     ensures { (result ≡ book_answer_of (answer book.old (Begin from to transfer sheet.now)))
         × (book.new ≡ next book.old (Begin from to transfer sheet.now)) }
 {
     lent::step_in(book, Step::Begin(from, to, transfer), sheet)
 }
 
-#[unsafe(no_mangle)]
-pub extern "C" fn credits_book_finish(book: &mut Book, transfer: u8) -> Answer
+pub fn credits_book_finish(book: &mut Book, transfer: u8) -> Answer
     ensures { (result ≡ book_answer_of (answer book.old (Finish transfer)))
         × (book.new ≡ next book.old (Finish transfer)) }
 {
     lent::free_in(book, Step::Finish(transfer))
 }
 
-#[unsafe(no_mangle)]
-pub extern "C" fn credits_book_cancel(book: &mut Book, transfer: u8) -> Answer
+pub fn credits_book_cancel(book: &mut Book, transfer: u8) -> Answer
     ensures { (result ≡ book_answer_of (answer book.old (Cancel transfer)))
         × (book.new ≡ next book.old (Cancel transfer)) }
 {

@@ -1,5 +1,7 @@
 // Prints the listing of each example, by the exported function: standard input is every session of examples/ in the order of
 // their names, each behind its length of 16 bits. tools/example_cases joins them.
+#![tactic(auto)]
+
 ghost use Rattle.std.specs.Prelude.{◌≤◌, length};
 
 use libc::{STDIN_FILENO, STDOUT_FILENO};

@@ -1,6 +1,2 @@
--- The steps of a walk by hand over a book that is lent.
-pub mod Lent
-pub mod Books
+-- The laws that the proof of a step in a lent book cites.
 pub mod Shown
-pub mod Handed
-pub mod Freed

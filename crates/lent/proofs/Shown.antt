@@ -2,10 +2,14 @@
 use mathlib.Core.Path.{◌≡◌, ap, ◌∙◌}
 use mathlib.Core.List.{List}
 use Prim.Native.Nat.{ℕ}
-use lib.ListN.{length}
+use lib.ListN.{length, set}
+use Rattle.amount.specs.declared.Amount.{Amount}
+use Rattle.amount.specs.declared.uint128.Uint128.{Uint128}
 use Rattle.book.specs.Book.{name_bytes, place_record, transfer_record, set_subject, set_balance}
 use Rattle.book.specs.declared.Book.{Book}
 use Rattle.book.specs.declared.Name.{Name}
+use Rattle.book.specs.declared.Place.{Place}
+use Rattle.book.specs.declared.Transfer.{Transfer}
 use Rattle.amount.proofs.Halves.{val_of}
 use Rattle.audit.specs.Totals.{total_of}
 use Rattle.audit.proofs.Sound.{total_sound, total_sum}
@@ -15,7 +19,26 @@ use Rattle.steps.specs.declared.step.Step.{Step}
 use Rattle.audit.specs.declared.totals.Total.{Total}
 use Rattle.steps.specs.declared.step.Turn.{Turn}
 use Rattle.steps.specs.declared.step.View.{View}
-use Rattle.lent.proofs.Books.{set_mantissa, set_from, set_to, set_amount, laid}
+
+-- ---- fields
+
+abbrev pub set_mantissa : Amount → Uint128 → Amount
+set_mantissa a m = record { mantissa = m; scale = a.scale }
+
+abbrev pub set_from : Transfer → ℕ → Transfer
+set_from r n = record { from = n; to = r.to; amount = r.amount }
+
+abbrev pub set_to : Transfer → ℕ → Transfer
+set_to r n = record { from = r.from; to = n; amount = r.amount }
+
+abbrev pub set_amount : Transfer → Amount → Transfer
+set_amount r a = record { from = r.from; to = r.to; amount = a }
+
+-- h with x as place p, r as transfer t, and the sets s and g
+abbrev pub laid : Book → ℕ → ℕ → Place → Transfer → ℕ → ℕ → Book
+laid h p t x r s g = record { unit = h.unit; opened = s; pending = g; places = set h.places p x; transfers = set h.transfers t r }
+
+-- ---- what a step reads, and what it stores
 
 -- what it reads, at transfer k and place i, with n the length of one more subject
 abbrev pub seen : Book → (k i n : ℕ) → Total → View
@@ -34,4 +57,4 @@ module _ (h : Book) (s : Step) {k i : ℕ} (e-k : k ≡ transfer_of s) (e-i : i 
 
   pub stored_so : (l : List ℕ) (r : Turn) {u : Name} → u ≡ subject_after s r.number (place_record h i).subject l → left_in h k i u r.left ≡ stored h s l r
   unfolding stored_at
-  stored_so l r e = λ a. stored_at h (at_spot h s e-k e-i a) (e-k a) ((e ∙ ap (λ (p : ℕ). subject_after s r.number (place_record h p).subject l) (at_spot h s e-k e-i)) a) r.left
+  stored_so l r {u} e = λ a. stored_at h (at_spot h s e-k e-i a) (e-k a) ((e ∙ ap (λ (p : ℕ). subject_after s r.number (place_record h p).subject l) (at_spot h s e-k e-i)) a) r.left

@@ -1,5 +1,7 @@
 // The book is lent to a step and altered there. It is copied for its total alone: what the step looks at is read, and what it leaves is
 // stored, where it lies. A refused step stores what it read, and so leaves the book as it was.
+#![tactic(auto)]
+
 ghost use Rattle.std.specs.Prelude.{◌≡◌, []};
 ghost use Rattle.book.specs.Refusals.{book_answer_of};
 ghost use Rattle.book.specs.Steps.{answer, next};

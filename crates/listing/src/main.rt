@@ -1,4 +1,6 @@
 // The session program: a session on standard input, its listing on standard output.
+#![tactic(auto)]
+
 use libc::{STDIN_FILENO, STDOUT_FILENO};
 
 // One byte more than a session may have: a longer one is seen to be bad.

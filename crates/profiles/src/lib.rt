@@ -1,4 +1,6 @@
 // The profiles: the checks of stacks, balances and meters.
+#![tactic(auto)]
+
 ghost use Rattle.std.specs.Prelude.{◌≡◌};
 ghost use Rattle.profiles.specs.Check.{check_of};
 

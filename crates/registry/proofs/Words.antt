@@ -15,7 +15,6 @@ use Rattle.sheet.specs.Sheet.{verdict_of, table, lookup}
 use Rattle.sheet.specs.Fields.{Field, absent, text, figure, other, field, field_of, field_of_kind}
 use Rattle.sheet.specs.declared.Found.{Found}
 use Rattle.sheet.specs.declared.Verdict.{Verdict}
-use Rattle.sheet.specs.declared.Verdict.TheVariants as Verdict
 use Rattle.sheet.specs.declared.Shape.TheVariants.{Input}
 use Rattle.registry.specs.Readers.{text_in, marked, given_or, amount_in}
 use Rattle.registry.specs.Helpers.{read_in, fault_in}

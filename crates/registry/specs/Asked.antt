@@ -4,7 +4,6 @@ use Rattle.sheet.specs.Sheet.{verdict_of}
 use Rattle.sheet.specs.Fields.{Field, absent, text, figure, other, field}
 use Rattle.sheet.specs.declared.Shape.TheVariants.{Input}
 use Rattle.sheet.specs.declared.Verdict.{Verdict}
-use Rattle.sheet.specs.declared.Verdict.TheVariants as Verdict
 use Rattle.registry.specs.Readers.{amount_in}
 use Rattle.registry.specs.Refusals.{refusal_of, zero_amount}
 use Rattle.registry.specs.declared.asked.Asked.{Asked}

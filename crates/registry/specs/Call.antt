@@ -3,9 +3,7 @@ use Rattle.std.specs.Prelude.{cond, ◌&&◌, List, ℕ, eqb, leb}
 use Rattle.sheet.specs.Sheet.{state_of, verdict_of}
 use Rattle.sheet.specs.declared.Shape.TheVariants.{Input}
 use Rattle.sheet.specs.declared.Verdict.{Verdict}
-use Rattle.sheet.specs.declared.Verdict.TheVariants as Verdict
 use Rattle.sheet.specs.declared.State.{State}
-use Rattle.sheet.specs.declared.State.TheVariants as State
 use Rattle.registry.specs.Tests.{◌then◌}
 use Rattle.registry.specs.declared.error.ProfileError.TheVariants.{TornState, TornInput, UnknownProfile, UnknownOperation}
 use Rattle.registry.specs.declared.error.Outcome.{Outcome}

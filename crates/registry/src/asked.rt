@@ -14,7 +14,7 @@ use amount::{AmountResult, Uint128};
 use sheet::{Entry, Found};
 
 // Whether the sheet is an input, and the amount that it asks for: number 0, or the number and the detail of a refusal.
-#[derive(Drop)]
+#[derive(Clone, Copy)]
 pub struct Asked {
     pub sound: bool,
     pub number: u8,

@@ -1,5 +1,7 @@
 // What rules are made of, the port of registry.rs: the readers of input and state sheets, the tests that profiles share,
 // and which profile an operation is of.
+#![tactic(auto)]
+
 ghost use Rattle.std.specs.Prelude.{◌≡◌, not, [], ◌∷◌, eqb, length};
 ghost use Rattle.sheet.specs.Fields.{field, field_of};
 ghost use Rattle.sheet.specs.Sheet.{state_of, verdict_of};

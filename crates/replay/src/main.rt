@@ -1,6 +1,8 @@
 // Replays the Rust's recorded answers: standard input is the list that the oracle wrote (oracle/src/record.rs has its
 // command and its form). Each record is put to the function that C callers get, and every field of the answer and every
 // byte of the buffer is compared. tools/replay_expected.py counts what must be printed from the list alone.
+#![tactic(auto)]
+
 ghost use Rattle.std.specs.Prelude.{◌≡◌, ◌≤◌, length};
 
 use amount::Amount;

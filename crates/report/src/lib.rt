@@ -1,4 +1,6 @@
 // The listing of a session's run, as text in a lent buffer.
+#![tactic(auto)]
+
 ghost use Rattle.std.specs.Prelude.{◌≡◌, ◌≤◌, length};
 ghost use Rattle.writer.specs.Encode.{put_into};
 ghost use Rattle.report.specs.Listing.{listing_of, length_in};

@@ -8,7 +8,6 @@ use Rattle.registry.specs.Tests.{Test, unborn, born, in_text, in_amount, st_text
 use Rattle.resource_state.specs.Next.{Gives, zero, given, kept, the_sum, the_difference, lesser, Makes, a_stack, a_balance, a_meter, ApplyRow}
 use Rattle.resource_state.specs.Apply.{stack_applies, balance_applies, meter_applies}
 use Rattle.resource_state.specs.declared.Part.{Part}
-use Rattle.resource_state.specs.declared.Part.TheVariants as Part
 
 -- a test as three numbers: which it is, and the names that it speaks of
 abbrev pub code : Test → ℕ × (ℕ × ℕ)

@@ -16,7 +16,6 @@ use Rattle.resource_state.specs.Next.{Gives, Makes, unless_refused, with_amount,
 use Rattle.resource_state.specs.Helpers.{unless_failed, amount_over, next_over}
 use Rattle.resource_state.specs.declared.ResourceState.{ResourceState}
 use Rattle.resource_state.specs.declared.Next.{Next}
-use Rattle.resource_state.specs.declared.Next.TheVariants as Next
 
 -- an amount that is read last
 pub read_last : (r : Reading) → r ≡ unless_failed (readable r then Accepted) (read_amount r)

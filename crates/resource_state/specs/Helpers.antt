@@ -9,7 +9,6 @@ use Rattle.registry.specs.declared.error.Outcome.TheVariants.{Accepted, Refused}
 use Rattle.registry.specs.declared.error.Reading.{Reading}
 use Rattle.registry.specs.declared.error.Reading.TheVariants.{Given, Failed}
 use Rattle.resource_state.specs.declared.Next.{Next}
-use Rattle.resource_state.specs.declared.Next.TheVariants as Next
 use Rattle.resource_state.specs.Next.{Gives, Makes, unless_refused, amount_for, made}
 
 abbrev pub unless_failed : Outcome → Amount → Reading

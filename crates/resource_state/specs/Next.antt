@@ -17,7 +17,6 @@ use Rattle.resource_state.specs.declared.Part.TheVariants.{State, Input}
 use Rattle.resource_state.specs.declared.ResourceState.{ResourceState}
 use Rattle.resource_state.specs.declared.ResourceState.TheVariants.{ConsumableStack, FungibleBalance, MeteredResource}
 use Rattle.resource_state.specs.declared.Next.{Next}
-use Rattle.resource_state.specs.declared.Next.TheVariants as Next
 
 -- THE AMOUNTS of a next state, by the names of fields: the input's, the state's as it was, arithmetic on the two
 pub data Gives : Type 0 where

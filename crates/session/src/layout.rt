@@ -10,7 +10,7 @@ use steps::Step;
 const MAX_ENTRIES: usize = 256;
 
 // The step of an entry, without its body; another kind is none.
-#[derive(Drop)]
+#[derive(Clone, Copy)]
 pub enum Entry {
     Step(Step),
     NoStep,

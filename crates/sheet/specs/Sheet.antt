@@ -10,7 +10,6 @@ use Rattle.sheet.specs.declared.Shape.TheVariants.{Input, Stack, Balance, Meter}
 use Rattle.sheet.specs.declared.Verdict.{Verdict}
 use Rattle.sheet.specs.declared.Verdict.TheVariants.{Sound, Torn}
 use Rattle.sheet.specs.declared.State.{State}
-use Rattle.sheet.specs.declared.State.TheVariants as State
 use Rattle.sheet.specs.declared.Found.{Found}
 use Rattle.sheet.specs.declared.Found.TheVariants.{At, Nothing}
 

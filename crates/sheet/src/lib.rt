@@ -1,5 +1,7 @@
 // Sheets: a count, a table of six-byte entries, and the bodies. Read by slice and number; nothing is copied.
 // Every function takes any bytes: a byte past the end counts as 0, and a part past the end is what is there.
+#![tactic(auto)]
+
 ghost use Rattle.std.specs.Prelude.{◌≡◌, ◌+◌, ◌<◌, ◌≤◌, get_or, length, take, drop};
 ghost use Rattle.sheet.specs.Sheet.{u16_at, entry_at, table, lookup, part_of, body_of};
 
@@ -39,7 +41,7 @@ pub const KIND_OTHER: u8 = 2;
 pub const KIND_AMOUNT: u8 = 3;
 
 // One entry of the table: the body's offset from the sheet's start, and its length.
-#[derive(Drop)]
+#[derive(Clone, Copy)]
 pub struct Entry {
     pub name: u8,
     pub kind: u8,
@@ -48,7 +50,7 @@ pub struct Entry {
 }
 
 // What a sheet is read as.
-#[derive(Drop)]
+#[derive(Clone, Copy)]
 pub enum Shape {
     Input,
     Stack,
@@ -56,14 +58,14 @@ pub enum Shape {
     Meter,
 }
 
-#[derive(Drop)]
+#[derive(Clone, Copy)]
 pub enum Verdict {
     Sound,
     Torn,
 }
 
 // What a state sheet is.
-#[derive(Drop)]
+#[derive(Clone, Copy)]
 pub enum State {
     Absent,
     Stack,
@@ -72,14 +74,14 @@ pub enum State {
     Torn,
 }
 
-#[derive(Drop)]
+#[derive(Clone, Copy)]
 pub enum Found {
     At(Entry),
     Nothing,
 }
 
 // The fields of a state: the subject's text, the field `second` of kind `kind`, and the amount `third`.
-#[derive(Drop)]
+#[derive(Clone, Copy)]
 pub struct Form {
     pub second: u8,
     pub kind: u8,

@@ -6,13 +6,13 @@ ghost use Rattle.sheet.specs.Visit.{found_at, after_of, reader_of, behind};
 
 use super::{Entry, byte, entry_at};
 
-#[derive(Drop)]
+#[derive(Clone, Copy)]
 pub enum Step {
     Next(Entry),
     End,
 }
 
-#[derive(Drop)]
+#[derive(Clone, Copy)]
 pub struct Reader<'a> {
     pub sheet: &'a [u8],
     pub next: usize,

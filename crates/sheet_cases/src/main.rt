@@ -2,6 +2,8 @@
 // buffer. The cases and the lines expected are made by tools/sheet_cases.py, which knows nothing of this code.
 // A case is a tag, a length of three bytes and as many bytes. Tag 0 is a sheet; 1, 2 and 3 write a stack, a balance and a
 // meter.
+#![tactic(auto)]
+
 use amount::Amount;
 use libc::{STDIN_FILENO, STDOUT_FILENO};
 use sheet::reader::Step;

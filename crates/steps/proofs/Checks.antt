@@ -14,7 +14,6 @@ use Rattle.sheet.specs.Sheet.{verdict_of}
 use Rattle.sheet.specs.Fields.{Field, text, field, subject, unit, balance, amount, to_subject, authorized_by}
 use Rattle.sheet.specs.declared.Shape.TheVariants.{Input}
 use Rattle.sheet.specs.declared.Verdict.{Verdict}
-use Rattle.sheet.specs.declared.Verdict.TheVariants as Verdict
 use Rattle.registry.specs.Asked.{is_sound, text_number, asked_in}
 use Rattle.registry.specs.Call.{input_sound}
 use Rattle.registry.specs.Readers.{text_in, amount_in, amount_of, readable, on_amount, read_amount}

@@ -18,7 +18,6 @@ use Rattle.steps.specs.declared.step.Step.TheVariants as Code
 use Rattle.steps.specs.declared.step.View.{View}
 use Rattle.steps.specs.declared.step.Turn.{Turn}
 use Rattle.steps.specs.declared.turn.Ended.{Ended}
-use Rattle.steps.specs.declared.turn.Ended.TheVariants as Ended
 
 -- ---- a step
 

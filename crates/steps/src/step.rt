@@ -13,7 +13,7 @@ pub const PLACES: u8 = book::PLACES as u8;
 pub const TRANSFERS: u8 = book::TRANSFERS as u8;
 
 // A sheet is passed beside it: an enum holds no reference.
-#[derive(Drop)]
+#[derive(Clone, Copy)]
 pub enum Step {
     Open(u8),
     Act(u8, u8),
@@ -25,7 +25,7 @@ pub enum Step {
 // What a step looks at and may alter, in words: what one place holds, one transfer's ends and amount, the two sets, the total, and whether
 // the book passes test 28. Names are not here: the unit is passed beside it, `named` is how long the destination's subject is, and only
 // an open writes one.
-#[derive(Drop)]
+#[derive(Clone, Copy)]
 pub struct View {
     pub held: Uint128,
     pub carried: Uint128,
@@ -39,7 +39,7 @@ pub struct View {
 }
 
 // Document 01's number and detail, the amount asked where that is 15, and what the step leaves.
-#[derive(Drop)]
+#[derive(Clone, Copy)]
 pub struct Turn {
     pub number: u8,
     pub detail: u8,

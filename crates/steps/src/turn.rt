@@ -12,7 +12,7 @@ use registry::asked::asked_in;
 const NO_NAME: u8 = 0;
 
 // The transfer that a step ends, where it ends one.
-#[derive(Drop)]
+#[derive(Clone, Copy)]
 pub(crate) enum Ended {
     Transfer(u8),
     Nothing,

@@ -20,7 +20,6 @@ use Rattle.resource_state.specs.Next.{unless_refused, sheet_of}
 use Rattle.resource_state.specs.Apply.{next_by, next_of}
 use Rattle.resource_state.specs.declared.ResourceState.{ResourceState}
 use Rattle.resource_state.specs.declared.Next.{Next}
-use Rattle.resource_state.specs.declared.Next.TheVariants as Next
 use Rattle.transition.specs.Credit.{credit_by, credit_of}
 use Rattle.transition.specs.Written.{answer_to}
 use Rattle.transition.specs.Helpers.{ShortTexts}

@@ -26,7 +26,6 @@ use Rattle.writer.specs.declared.Put.TheVariants as Put
 use Rattle.resource_state.specs.Next.{text_from, sheet_of}
 use Rattle.transition.specs.Helpers.{ShortTexts, PutFits}
 use Rattle.resource_state.specs.declared.Part.{Part}
-use Rattle.resource_state.specs.declared.Part.TheVariants as Part
 use Rattle.resource_state.specs.declared.ResourceState.{ResourceState}
 use Rattle.resource_state.specs.declared.ResourceState.TheVariants.{ConsumableStack, FungibleBalance, MeteredResource}
 

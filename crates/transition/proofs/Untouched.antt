@@ -16,7 +16,6 @@ use Rattle.writer.specs.declared.Put.TheVariants as Put
 use Rattle.resource_state.specs.Next.{sheet_of}
 use Rattle.resource_state.specs.declared.ResourceState.{ResourceState}
 use Rattle.resource_state.specs.declared.Next.{Next}
-use Rattle.resource_state.specs.declared.Next.TheVariants as Next
 use Rattle.transition.specs.Written.{answer_to, buffer_after, put_of}
 
 -- a state was made, and the buffer holds its sheet

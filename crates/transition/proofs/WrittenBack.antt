@@ -2,7 +2,7 @@
 use mathlib.Core.Path.{◌≡◌, refl, sym, subst}
 use mathlib.Core.Bool.{Bool, true, false, cond, ◌&&◌}
 use mathlib.Core.List.{List, [], ◌∷◌}
-use Prim.Native.Nat.{ℕ, ◌-◌, ◌/◌, ◌^◌, ◌<◌, ◌≤◌}
+use Prim.Native.Nat.{ℕ, ◌/◌, ◌^◌, ◌<◌, ◌≤◌}
 use native.Mathlib.Omega.{arith}
 use native.Mathlib.Nat.{div-lt_iff_lt-mul, mod-lt}
 use lib.Dec.{eqb, leb, ltb}
@@ -16,7 +16,7 @@ use Rattle.amount.specs.declared.uint128.Ordering.{Ordering}
 use Rattle.amount.specs.declared.uint128.Ordering.TheVariants.{Less, Equal, Greater}
 use Rattle.amount.specs.declared.AmountResult.{AmountResult}
 use Rattle.amount.specs.declared.AmountResult.TheVariants as Read
-use Rattle.sheet.specs.Fields.{Field, absent, text, figure, other, sight_of, field, three, subject, unit, quantity, balance, amount, remaining, maximum, to_subject}
+use Rattle.sheet.specs.Fields.{Field, absent, text, figure, other, sight_of, field, three, unit, quantity, balance, amount, to_subject}
 use Rattle.sheet.specs.Sheet.{state_of, verdict_of}
 use Rattle.sheet.specs.declared.Shape.TheVariants.{Input}
 use Rattle.sheet.specs.declared.State.{State}
@@ -35,11 +35,9 @@ use Rattle.writer.proofs.RoundTrip.{Sized, Back, stack_back, balance_back, meter
 use Rattle.resource_state.specs.Next.{Gives, zero, given, kept, the_sum, the_difference, lesser, Makes, a_stack, a_balance, a_meter, ApplyRow, unless_refused, amount_for, made, applied, text_from, sheet_of, with_amount}
 use Rattle.resource_state.specs.Apply.{stack_applies, balance_applies, meter_applies, stack_next, balance_next, meter_next, next_by, next_of}
 use Rattle.resource_state.specs.declared.Part.{Part}
-use Rattle.resource_state.specs.declared.Part.TheVariants as Part
 use Rattle.resource_state.specs.declared.ResourceState.{ResourceState}
 use Rattle.resource_state.specs.declared.ResourceState.TheVariants.{ConsumableStack, FungibleBalance, MeteredResource}
 use Rattle.resource_state.specs.declared.Next.{Next}
-use Rattle.resource_state.specs.declared.Next.TheVariants as Next
 use Rattle.transition.specs.Credit.{crediting, existing, unless_failed_by, with_more, credited_stack, credited_balance, credited_amount, credit_by, credit_of}
 use Rattle.transition.specs.Written.{Bytes}
 use Rattle.transition.specs.Helpers.{ShortTexts}

@@ -17,7 +17,6 @@ use Rattle.resource_state.specs.Next.{stack_of, balance_of, unless_refused, with
 use Rattle.resource_state.specs.declared.Part.TheVariants.{State, Input}
 use Rattle.resource_state.specs.declared.ResourceState.{ResourceState}
 use Rattle.resource_state.specs.declared.Next.{Next}
-use Rattle.resource_state.specs.declared.Next.TheVariants as Next
 
 -- an absent source is 6; in to_subject, source unit, in quantity or amount
 abbrev pub crediting : ℕ → List Test

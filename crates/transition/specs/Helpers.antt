@@ -2,7 +2,6 @@
 use Rattle.std.specs.Prelude.{List, ℕ, ◌<◌, ◌≤◌, length}
 use Rattle.sheet.specs.Fields.{field}
 use Rattle.writer.specs.declared.Put.{Put}
-use Rattle.writer.specs.declared.Put.TheVariants as Put
 use Rattle.registry.specs.Readers.{bytes_of}
 
 abbrev pub ShortTexts : List ℕ → Type 0

@@ -1,16 +1,14 @@
 -- Document 01, section "Operations", the answer of apply and credit: 20 last; a refusal writes nothing, an accepted call the first bytes only.
-use Rattle.std.specs.Prelude.{List, ℕ, ◌<◌, length, get_or}
+use Rattle.std.specs.Prelude.{List, ℕ, ◌<◌, get_or}
 use Rattle.writer.specs.Encode.{put_into, put_answer}
 use Rattle.sheet.specs.Fields.{field}
 use Rattle.writer.specs.declared.Put.{Put}
-use Rattle.writer.specs.declared.Put.TheVariants as Put
 use Rattle.registry.specs.Refusals.{zero_amount, refusal_of}
 use Rattle.registry.specs.declared.error.ProfileError.TheVariants.{Narrow}
 use Rattle.registry.specs.declared.error.Answer.{Answer}
 use Rattle.resource_state.specs.Next.{sheet_of}
 use Rattle.resource_state.specs.declared.ResourceState.{ResourceState}
 use Rattle.resource_state.specs.declared.Next.{Next}
-use Rattle.resource_state.specs.declared.Next.TheVariants as Next
 
 -- accepted: the length written
 abbrev pub written_of : ℕ → Answer

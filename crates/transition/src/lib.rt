@@ -1,5 +1,7 @@
 // What an accepted operation writes: the port of apply and transfer_after_state of transition.rs. `apply` writes the next
 // state, `credit` the far end of a transfer. Both take any bytes; a refusal leaves the buffer as it was.
+#![tactic(auto)]
+
 ghost use Rattle.std.specs.Prelude.{◌≡◌};
 ghost use Rattle.sheet.specs.Fields.{field, sight_of};
 ghost use Rattle.resource_state.specs.Next.{text_from};

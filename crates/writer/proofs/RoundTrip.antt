@@ -12,7 +12,6 @@ use Rattle.amount.specs.declared.Amount.{Amount}
 use Rattle.sheet.specs.declared.Entry.{Entry}
 use Rattle.sheet.specs.declared.Form.{Form}
 use Rattle.sheet.specs.declared.State.{State}
-use Rattle.sheet.specs.declared.State.TheVariants as State
 use Rattle.sheet.specs.Sheet.{entry_at, entries_from, table, part_of, length_fits, is_form, sound_as, state_of, stack_form, balance_form, meter_form}
 use Rattle.sheet.specs.Amounts.{amount_at, amount_bytes}
 use Rattle.sheet.specs.Fields.{Field, text, figure, field_of_kind, field, three}

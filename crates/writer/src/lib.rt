@@ -1,4 +1,6 @@
 // Writes state sheets into a lent buffer. A buffer that is too short keeps every byte, and bytes behind the sheet stay.
+#![tactic(auto)]
+
 ghost use Rattle.std.specs.Prelude.{◌≡◌, ◌<◌, ◌≤◌, ◌+◌, ◌/◌, ◌%◌, length};
 ghost use Rattle.writer.specs.Encode.{encode, form_items, stack_sheet, balance_sheet, meter_sheet, put_into, put_answer};
 ghost use Rattle.writer.specs.Helpers.{head_of, overlay};
@@ -9,7 +11,7 @@ use sheet::{
 };
 
 // How many bytes were written, or that they do not fit.
-#[derive(Drop)]
+#[derive(Clone, Copy)]
 pub enum Put {
     Done(usize),
     Narrow,

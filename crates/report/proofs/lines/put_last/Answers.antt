@@ -1,0 +1,18 @@
+use borrow.Author.Rules.{rules}
+use mathlib.Core.Path.{ap}
+use Rattle.amount.specs.Canonical.{canonical_text}
+use Rattle.amount.specs.declared.uint128.Uint128.{Uint128}
+use Rattle.report.specs.Listing.{last_line}
+use Rattle.report.proofs.Putting.{◌then◌, as_text_lem}
+use Rattle.report.proofs.lines.put_last.Goals as goal
+
+pub returns : goal.returns
+unfolding last_line
+returns c =
+    let is = c.book_total-mantissa.ensures c.requires.1 in (
+      search rules,
+      c.put_counts-counts.ensures.1
+          then c.put-word.ensures.1
+          then as_text_lem (ap (λ (m : Uint128). canonical_text (record { mantissa = m; scale = 0 })) is) c.put_amount-total.ensures.1
+          then c.put.ensures.1,
+    )
