@@ -1,4 +1,4 @@
-// The book behind C: a book is lent and one step is done in it. Each entry is one call of `lent`, and its proof is tools/proof/hand_on's.
+// The book behind C: a book is lent and one step is done in it. Each entry is one call of `lent`.
 ghost use Rattle.std.specs.Prelude.{◌≡◌};
 ghost use Rattle.book.specs.Refusals.{book_answer_of};
 ghost use Rattle.book.specs.Steps.{Open, Act, Begin, Finish, Cancel, answer, next, start_answer, start_book};
