@@ -7,49 +7,46 @@
 ghost use Rattle.std.specs.Prelude.{◌<◌, ◌≤◌, length};
 
 use amount::{Amount, AmountResult, Ordering};
-use libc::STDOUT_FILENO;
+use std::io;
+use std::io::{BufWriter, Read, Write};
 
-fn put(s: &[u8]) {
-    io::write_all(STDOUT_FILENO, s);
-}
+// The cases are read up to here.
+const READ_BYTES: u64 = 65536;
 
-fn put_text(bytes: [u8; 257], len: u16) {
+fn put_text(out: &mut impl Write, bytes: [u8; 257], len: u16) -> io::Result<()> {
     let n = len as usize;
     if n <= 257 {
-        put(&bytes[..n]);
+        out.write_all(&bytes[..n])?;
     }
+    Ok(())
 }
 
-fn put_canonical(a: Amount) {
+fn put_canonical(out: &mut impl Write, a: Amount) -> io::Result<()> {
     let text = a.to_canonical_string();
-    let bytes = text.bytes;
-    put_text(bytes, text.len);
+    put_text(out, text.bytes, text.len)
 }
 
 // An amount as it is stored: its mantissa, `@` and its scale.
-fn put_stored(a: Amount) {
+fn put_stored(out: &mut impl Write, a: Amount) -> io::Result<()> {
     let mantissa = a.mantissa;
-    put_canonical(Amount { mantissa, scale: 0 });
-    put(b"@");
-    io::print_decimal(STDOUT_FILENO, a.scale as u64);
+    put_canonical(out, Amount { mantissa, scale: 0 })?;
+    write!(out, "@{}", a.scale)
 }
 
 // The amount, or the refusal's number.
-fn put_result(r: AmountResult) {
+fn put_result(out: &mut impl Write, r: AmountResult) -> io::Result<()> {
     let g = r.given();
     if g.number == 0 {
-        let amount = g.amount;
-        put_stored(amount);
-        return;
+        return put_stored(out, g.amount);
     }
-    io::print_decimal(STDOUT_FILENO, g.number as u64);
+    write!(out, "{}", g.number)
 }
 
-fn put_order(o: Ordering) {
+fn put_order(out: &mut impl Write, o: Ordering) -> io::Result<()> {
     match o {
-        Ordering::Less => put(b"less"),
-        Ordering::Equal => put(b"equal"),
-        Ordering::Greater => put(b"greater"),
+        Ordering::Less => write!(out, "less"),
+        Ordering::Equal => write!(out, "equal"),
+        Ordering::Greater => write!(out, "greater"),
     }
 }
 
@@ -57,12 +54,10 @@ fn put_order(o: Ordering) {
 fn find(s: &[u8], at: usize, byte: u8) -> usize
     ensures { (result ≤ length s.now) × (at < length s.now → at ≤ result) }
 {
-    let mut i = at;
-    while i < s.len() {
+    for i in at..s.len() {
         if s[i] == byte {
             return i;
         }
-        i += 1;
     }
     s.len()
 }
@@ -93,55 +88,55 @@ fn amount_at(s: &[u8], at: usize) -> Amount {
     let AmountResult::Ok(scale) = Amount::try_from_str(word(s, next(s, at), b' ')) else {
         return Amount::ZERO;
     };
-    let mantissa = whole.mantissa;
-    let places = scale.mantissa;
     Amount {
-        mantissa,
-        scale: (places.lo % 256) as u8,
+        mantissa: whole.mantissa,
+        scale: (scale.mantissa.lo % 256) as u8,
     }
 }
 
-fn judge_pair(line: &[u8]) {
+fn judge_pair(out: &mut impl Write, line: &[u8]) -> io::Result<()> {
     let a = amount_at(line, 0);
     let b = amount_at(line, next(line, next(line, 0)));
-    put_order(a.cmp(b));
-    put(b", min ");
-    put_stored(a.min(b));
-    put(b", sum ");
-    put_result(a.checked_add(b));
-    put(b", difference ");
-    put_result(a.checked_sub(b));
-    put(b", text ");
-    put_canonical(a);
-    put(b" ");
-    put_canonical(b);
+    put_order(out, a.cmp(b))?;
+    write!(out, ", min ")?;
+    put_stored(out, a.min(b))?;
+    write!(out, ", sum ")?;
+    put_result(out, a.checked_add(b))?;
+    write!(out, ", difference ")?;
+    put_result(out, a.checked_sub(b))?;
+    write!(out, ", text ")?;
+    put_canonical(out, a)?;
+    write!(out, " ")?;
+    put_canonical(out, b)
 }
 
-fn judge(line: &[u8]) {
-    put(line);
-    put(b": ");
-    if line.len() == 0 {
-        return;
+fn judge(out: &mut impl Write, line: &[u8]) -> io::Result<()> {
+    out.write_all(line)?;
+    write!(out, ": ")?;
+    if line.is_empty() {
+        return Ok(());
     }
     if line[0] == b'r' {
-        put_result(Amount::try_from_str(&line[1..]));
-        return;
+        return put_result(out, Amount::try_from_str(&line[1..]));
     }
-    judge_pair(line);
+    judge_pair(out, line)
 }
 
-fn judge_all(s: &[u8]) {
+fn judge_all(out: &mut impl Write, s: &[u8]) -> io::Result<()> {
     let mut at = 0;
     while at < s.len() {
         let end = find(s, at, b'\n');
-        judge(word(s, at, b'\n'));
-        put(b"\n");
+        judge(out, word(s, at, b'\n'))?;
+        writeln!(out)?;
         at = end + 1;
     }
+    Ok(())
 }
 
-fn main() {
-    let mut buf = io::large_buffer();
-    let n = io::read_full(libc::STDIN_FILENO, &mut buf);
-    judge_all(&buf[..n]);
+fn main(rt: HostRuntime) -> io::Result<()> {
+    let mut cases = Vec::new(rt.alloc());
+    rt.reader().take(READ_BYTES).read_to_end(&mut cases)?;
+    let mut out = BufWriter::new(rt.alloc(), io::writer(&rt))?;
+    judge_all(&mut out, &cases)?;
+    out.flush()
 }
