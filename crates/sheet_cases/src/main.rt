@@ -5,87 +5,67 @@
 #![tactic(auto)]
 
 use amount::Amount;
-use libc::{STDIN_FILENO, STDOUT_FILENO};
 use sheet::reader::Step;
 use sheet::{Found, Shape, State, Verdict};
+use std::io;
+use std::io::{BufWriter, Read, Write};
 use writer::Put;
 
-fn put(text: &[u8]) {
-    io::write_all(STDOUT_FILENO, text);
-}
+// The cases are read up to here.
+const READ_BYTES: u64 = 524288;
 
-fn number(n: u64) {
-    io::print_decimal(STDOUT_FILENO, n);
-}
-
-fn print_amount(a: Amount) {
+fn print_amount(out: &mut impl Write, a: Amount) -> io::Result<()> {
     let m = a.mantissa;
-    put(b"=");
-    number(m.hi);
-    put(b",");
-    number(m.lo);
-    put(b",");
-    number(a.scale as u64);
+    write!(out, "={},{},{}", m.hi, m.lo, a.scale)
 }
 
-fn print_input(s: &[u8]) {
+fn print_input(out: &mut impl Write, s: &[u8]) -> io::Result<()> {
     match sheet::layout(s, Shape::Input) {
-        Verdict::Sound => put(b"sound"),
-        Verdict::Torn => put(b"torn"),
+        Verdict::Sound => write!(out, "sound"),
+        Verdict::Torn => write!(out, "torn"),
     }
 }
 
-fn print_state(s: &[u8]) {
+fn print_state(out: &mut impl Write, s: &[u8]) -> io::Result<()> {
     match sheet::state_of(s) {
-        State::Absent => put(b" absent"),
-        State::Stack => put(b" stack"),
-        State::Balance => put(b" balance"),
-        State::Meter => put(b" meter"),
-        State::Torn => put(b" torn"),
+        State::Absent => write!(out, " absent"),
+        State::Stack => write!(out, " stack"),
+        State::Balance => write!(out, " balance"),
+        State::Meter => write!(out, " meter"),
+        State::Torn => write!(out, " torn"),
     }
 }
 
 // The first entry's name, by the reader.
-fn print_first(s: &[u8]) {
-    let Step::Next(e) = sheet::reader::first(s) else {
-        put(b" none");
-        return;
-    };
-    put(b" ");
-    number(e.name as u64);
+fn print_first(out: &mut impl Write, s: &[u8]) -> io::Result<()> {
+    match sheet::reader::first(s) {
+        Step::Next(e) => write!(out, " {}", e.name),
+        Step::End => write!(out, " none"),
+    }
 }
 
 // What lookup finds: name, kind, offset and length, the length of the body that is there, and an amount's value.
-fn print_field(s: &[u8], name: u8) {
+fn print_field(out: &mut impl Write, s: &[u8], name: u8) -> io::Result<()> {
     let Found::At(e) = sheet::find(s, name) else {
-        return;
+        return Ok(());
     };
     let body = sheet::body(s, name);
-    put(b" ");
-    number(name as u64);
-    put(b":");
-    number(e.kind as u64);
-    put(b"@");
-    number(e.offset as u64);
-    put(b"+");
-    number(e.len as u64);
-    put(b"/");
-    number(body.len() as u64);
+    write!(out, " {name}:{}@{}+{}", e.kind, e.offset, e.len)?;
+    write!(out, "/{}", body.len())?;
     if e.kind == sheet::KIND_AMOUNT {
-        print_amount(sheet::amount_at(body, 0));
+        print_amount(out, sheet::amount_at(body, 0))?;
     }
+    Ok(())
 }
 
-fn judge(s: &[u8]) {
-    print_input(s);
-    print_state(s);
-    print_first(s);
-    let mut name = 1u8;
-    while name <= 10 {
-        print_field(s, name);
-        name += 1;
+fn judge(out: &mut impl Write, s: &[u8]) -> io::Result<()> {
+    print_input(out, s)?;
+    print_state(out, s)?;
+    print_first(out, s)?;
+    for name in 1..=10 {
+        print_field(out, s, name)?;
     }
-    put(b"\n");
+    writeln!(out)
 }
 
 fn write_state(tag: u8, out: &mut [u8], subject: &[u8], unit: &[u8], a: Amount, b: Amount) -> Put {
@@ -98,29 +78,24 @@ fn write_state(tag: u8, out: &mut [u8], subject: &[u8], unit: &[u8], a: Amount, 
     writer::put_meter(out, subject, a, b)
 }
 
-fn print_put(p: Put) {
+fn print_put(out: &mut impl Write, p: Put) -> io::Result<()> {
     match p {
-        Put::Done(n) => {
-            put(b"done ");
-            number(n as u64);
-            put(b" ");
-        }
-        Put::Narrow => put(b"narrow "),
+        Put::Done(n) => write!(out, "done {n} "),
+        Put::Narrow => write!(out, "narrow "),
     }
 }
 
 // The first n bytes.
-fn print_hex(bytes: &[u8], n: usize) {
-    let mut i: usize = 0;
-    while i < n {
-        io::print_hex(STDOUT_FILENO, sheet::byte(bytes, i) as u64, 2);
-        i += 1;
+fn print_hex(out: &mut impl Write, bytes: &[u8], n: usize) -> io::Result<()> {
+    for i in 0..n {
+        write!(out, "{:02x}", sheet::byte(bytes, i))?;
     }
-    put(b"\n");
+    writeln!(out)
 }
 
 // Lends the writer the first `room` bytes, and shows them and four bytes more.
 fn write_within(
+    out: &mut impl Write,
     tag: u8,
     space: &mut [u8],
     room: u16,
@@ -128,18 +103,19 @@ fn write_within(
     unit: &[u8],
     a: Amount,
     b: Amount,
-) {
+) -> io::Result<()> {
     let end = room as usize;
     if space.len() < end {
-        return;
+        return Ok(());
     }
-    print_put(write_state(tag, &mut space[..end], subject, unit, a, b));
-    print_hex(space, end + 4);
+    let written = write_state(tag, &mut space[..end], subject, unit, a, b);
+    print_put(out, written)?;
+    print_hex(out, space, end + 4)
 }
 
 // A writer's case: the room, the subject's and the unit's length, 16 bits each; then the subject, the unit and two
 // amounts. The buffer holds 170 at first.
-fn write(tag: u8, s: &[u8]) {
+fn write(out: &mut impl Write, tag: u8, s: &[u8]) -> io::Result<()> {
     let room = sheet::u16_at(s, 0);
     let x = sheet::u16_at(s, 2) as usize;
     let y = sheet::u16_at(s, 4) as usize;
@@ -148,35 +124,37 @@ fn write(tag: u8, s: &[u8]) {
     let a = sheet::amount_at(sheet::part(s, 6 + x + y, 17), 0);
     let b = sheet::amount_at(sheet::part(s, 23 + x + y, 17), 0);
     let mut space = [170u8; 1024];
-    write_within(tag, &mut space, room, subject, unit, a, b);
+    write_within(out, tag, &mut space, room, subject, unit, a, b)
 }
 
-fn case(tag: u8, s: &[u8]) {
+fn case(out: &mut impl Write, tag: u8, s: &[u8]) -> io::Result<()> {
     if tag == 0 {
-        judge(s);
-        return;
+        return judge(out, s);
     }
-    write(tag, s);
+    write(out, tag, s)
 }
 
-fn cases(s: &[u8]) {
+fn cases(out: &mut impl Write, s: &[u8]) -> io::Result<()> {
     let mut at: usize = 0;
     while at < s.len() {
         if s.len() - at < 4 {
-            return;
+            return Ok(());
         }
         let body = at + 4;
         let len = sheet::u16_at(s, at + 1) as usize + 65536 * sheet::byte(s, at + 3) as usize;
         if s.len() - body < len {
-            return;
+            return Ok(());
         }
-        case(sheet::byte(s, at), &s[body..body + len]);
+        case(out, sheet::byte(s, at), &s[body..body + len])?;
         at = body + len;
     }
+    Ok(())
 }
 
-fn main() {
-    let mut space = [0u8; 524288];
-    let n = io::read_full(STDIN_FILENO, &mut space);
-    cases(&space[..n]);
+fn main(rt: HostRuntime) -> io::Result<()> {
+    let mut list = Vec::new(rt.alloc());
+    rt.reader().take(READ_BYTES).read_to_end(&mut list)?;
+    let mut out = BufWriter::new(rt.alloc(), io::writer(&rt))?;
+    cases(&mut out, &list)?;
+    out.flush()
 }
