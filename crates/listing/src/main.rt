@@ -1,15 +1,18 @@
 // The session program: a session on standard input, its listing on standard output.
 #![tactic(auto)]
 
-use libc::{STDIN_FILENO, STDOUT_FILENO};
+use std::io;
+use std::io::{Read, Write};
 
 // One byte more than a session may have: a longer one is seen to be bad.
 const READ_BYTES: usize = session::MAX_BYTES + 1;
 
-fn main() {
-    let mut session = [0u8; READ_BYTES];
-    let n = io::read_full(STDIN_FILENO, &mut session);
-    let mut out = io::buffer();
-    let len = report::listing(&session[..n], &mut out) as usize;
-    io::write_all(STDOUT_FILENO, &out[..len]);
+fn main(rt: HostRuntime) -> io::Result<()> {
+    let mut session = Vec::new(rt.alloc());
+    rt.reader()
+        .take(READ_BYTES as u64)
+        .read_to_end(&mut session)?;
+    let mut out = [0u8; 4096];
+    let len = report::listing(&session, &mut out) as usize;
+    io::writer(&rt).write_all(&out[..len])
 }
