@@ -4,13 +4,17 @@
 
 ghost use Rattle.std.specs.Prelude.{◌≤◌, length};
 
-use libc::{STDIN_FILENO, STDOUT_FILENO};
+use std::io;
+use std::io::{BufWriter, Read, Write};
+
+// The sessions are read up to here.
+const READ_BYTES: u64 = 65536;
 
 // Prints one session's listing.
-fn print(session: &[u8]) {
-    let mut out = io::buffer();
-    let len = credits::session_calls::credits_session_listing(session, &mut out) as usize;
-    io::write_all(STDOUT_FILENO, &out[..len]);
+fn print(out: &mut impl Write, session: &[u8]) -> io::Result<()> {
+    let mut listing = [0u8; 4096];
+    let len = credits::session_calls::credits_session_listing(session, &mut listing) as usize;
+    out.write_all(&listing[..len])
 }
 
 // The length of the session that the bytes start with, and of its length before it; all of them where they end first.
@@ -24,21 +28,24 @@ fn size(s: &[u8]) -> usize
     n
 }
 
-fn print_all(s: &[u8]) {
+fn print_all(out: &mut impl Write, s: &[u8]) -> io::Result<()> {
     let mut at: usize = 0;
     while at < s.len() {
         let rest = &s[at..];
         let n = size(rest);
         if n < 2 {
-            return;
+            return Ok(());
         }
-        print(&rest[2..n]);
+        print(out, &rest[2..n])?;
         at += n;
     }
+    Ok(())
 }
 
-fn main() {
-    let mut space = io::large_buffer();
-    let n = io::read_full(STDIN_FILENO, &mut space);
-    print_all(&space[..n]);
+fn main(rt: HostRuntime) -> io::Result<()> {
+    let mut sessions = Vec::new(rt.alloc());
+    rt.reader().take(READ_BYTES).read_to_end(&mut sessions)?;
+    let mut out = BufWriter::new(rt.alloc(), io::writer(&rt))?;
+    print_all(&mut out, &sessions)?;
+    out.flush()
 }
