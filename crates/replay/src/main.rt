@@ -3,11 +3,16 @@
 // byte of the buffer is compared. tools/replay_expected.py counts what must be printed from the list alone.
 #![tactic(auto)]
 
-ghost use Rattle.std.specs.Prelude.{◌≡◌, ◌≤◌, length};
+ghost use Rattle.std.specs.Prelude.{◌≡◌, ◌≤◌, IfOk, length, vec_capacity};
 
 use amount::Amount;
-use libc::{STDIN_FILENO, STDOUT_FILENO};
 use registry::error::Answer;
+use std::alloc::{AllocError, Global};
+use std::io;
+use std::io::{BufWriter, Read, Write};
+
+// The list is read up to here.
+const READ_BYTES: usize = 1048576;
 
 // The calls.
 const CHECK: u8 = 1;
@@ -31,14 +36,6 @@ const COUNTS: usize = 50;
 const FLAGS: usize = 21;
 
 const ALL: usize = 24;
-
-fn put(text: &[u8]) {
-    io::write_all(STDOUT_FILENO, text);
-}
-
-fn number(n: u64) {
-    io::print_decimal(STDOUT_FILENO, n);
-}
 
 // Where the expected answer stands in a record: after 11 bytes and the three sheets.
 fn answer_at(r: &[u8]) -> usize
@@ -108,13 +105,11 @@ fn same_answer(e: &[u8], a: Answer) -> bool {
 
 // Whether the space holds what was written, and behind it what it held before.
 fn same_bytes(space: &[u8], written: &[u8], fill: u8) -> bool {
-    let mut i: usize = 0;
-    while i < space.len() {
+    for i in 0..space.len() {
         let expected = if i < written.len() { written[i] } else { fill };
         if space[i] != expected {
             return false;
         }
-        i += 1;
     }
     true
 }
@@ -145,7 +140,7 @@ fn count(counts: &mut [u64; COUNTS], row: usize, equal: bool) {
     }
     let i = if equal { 2 * row } else { 2 * row + 1 };
     if i < COUNTS {
-        counts[i] = std::num::wrapping_add_u64(counts[i], 1);
+        counts[i] = counts[i].wrapping_add(1);
     }
 }
 
@@ -159,86 +154,79 @@ fn tally(counts: &mut [u64; COUNTS], number: u8, flag: u8, equal: bool) {
 }
 
 // Puts one record to the library.
-fn judge(r: &[u8], at: usize, counts: &mut [u64; COUNTS]) {
+fn judge(out: &mut impl Write, r: &[u8], at: usize, counts: &mut [u64; COUNTS]) -> io::Result<()> {
     let answer = answer_at(r);
     let flag = sheet::byte(r, answer + 38 + sheet::u16_at(r, answer + 36) as usize);
     let equal = same(r);
     if !equal {
-        put(b"unequal: the record at byte ");
-        number(at as u64);
-        put(b"\n");
+        writeln!(out, "unequal: the record at byte {at}")?;
     }
     tally(counts, sheet::byte(r, answer), flag, equal);
+    Ok(())
 }
 
 // Puts each record to the library, and answers how many bytes are left over.
-fn judge_all(s: &[u8], counts: &mut [u64; COUNTS]) -> usize {
+fn judge_all(out: &mut impl Write, s: &[u8], counts: &mut [u64; COUNTS]) -> io::Result<usize> {
     let mut at: usize = 0;
     while at < s.len() {
         let r = &s[at..];
         let n = size(r);
         if n == 0 {
-            return s.len() - at;
+            return Ok(s.len() - at);
         }
-        judge(r, at, counts);
+        judge(out, r, at, counts)?;
         at += n;
     }
-    0
+    Ok(0)
 }
 
 fn count_at(counts: &[u64; COUNTS], i: usize) -> u64 {
     if i < COUNTS { counts[i] } else { 0 }
 }
 
-fn print_row(counts: &[u64; COUNTS], row: usize) {
+fn print_row(out: &mut impl Write, counts: &[u64; COUNTS], row: usize) -> io::Result<()> {
     if row >= COUNTS / 2 {
-        return;
+        return Ok(());
     }
-    put(b": ");
-    number(count_at(counts, 2 * row));
-    put(b" equal, ");
-    number(count_at(counts, 2 * row + 1));
-    put(b" unequal\n");
+    let equal = count_at(counts, 2 * row);
+    let unequal = count_at(counts, 2 * row + 1);
+    writeln!(out, ": {equal} equal, {unequal} unequal")
 }
 
-fn print_numbers(counts: &[u64; COUNTS]) {
-    let mut row: usize = 0;
-    while row < FLAGS {
-        put(b"number ");
-        number(row as u64);
-        print_row(counts, row);
-        row += 1;
+fn print_numbers(out: &mut impl Write, counts: &[u64; COUNTS]) -> io::Result<()> {
+    for row in 0..FLAGS {
+        write!(out, "number {row}")?;
+        print_row(out, counts, row)?;
     }
+    Ok(())
 }
 
-fn print_counts(counts: &[u64; COUNTS]) {
-    print_numbers(counts);
-    put(b"from the Rust");
-    print_row(counts, FLAGS);
-    put(b"from the layer over it");
-    print_row(counts, FLAGS + 1);
-    put(b"recorded differences, to document 01");
-    print_row(counts, FLAGS + 2);
-    put(b"all records");
-    print_row(counts, ALL);
+fn print_counts(out: &mut impl Write, counts: &[u64; COUNTS]) -> io::Result<()> {
+    print_numbers(out, counts)?;
+    write!(out, "from the Rust")?;
+    print_row(out, counts, FLAGS)?;
+    write!(out, "from the layer over it")?;
+    print_row(out, counts, FLAGS + 1)?;
+    write!(out, "recorded differences, to document 01")?;
+    print_row(out, counts, FLAGS + 2)?;
+    write!(out, "all records")?;
+    print_row(out, counts, ALL)
 }
 
-// Room for the list. The contract says its length alone, so that no proof counts its bytes.
-fn room() -> [u8; 1048576]
-    ensures { 1048576 ≡ length result }
+// Room for the list.
+fn room(alloc: Global) -> Result<Vec<u8>, AllocError>
+    ensures { IfOk result (λ v. vec_capacity v ≡ 1048576) }
 {
-    [0; 1048576]
+    Vec::with_capacity(alloc, READ_BYTES)
 }
 
-fn main() {
-    let mut space = room();
+fn main(rt: HostRuntime) -> io::Result<()> {
+    let mut list = room(rt.alloc())?;
+    let n = rt.reader().take(READ_BYTES as u64).read_to_end(&mut list)?;
+    let mut out = BufWriter::new(rt.alloc(), io::writer(&rt))?;
     let mut counts = [0u64; COUNTS];
-    let n = io::read_full(STDIN_FILENO, &mut space);
-    let rest = judge_all(&space[..n], &mut counts);
-    print_counts(&counts);
-    put(b"bytes ");
-    number(n as u64);
-    put(b", left over ");
-    number(rest as u64);
-    put(b"\n");
+    let rest = judge_all(&mut out, &list, &mut counts)?;
+    print_counts(&mut out, &counts)?;
+    writeln!(out, "bytes {n}, left over {rest}")?;
+    out.flush()
 }
