@@ -2,14 +2,19 @@
 // form), with each answer that is expected and, at a list's end, the book. Then the list goes through the run of a session.
 #![tactic(auto)]
 
-ghost use Rattle.std.specs.Prelude.{◌≡◌, ◌<◌, ◌≤◌, length};
+ghost use Rattle.std.specs.Prelude.{◌≡◌, ◌<◌, ◌≤◌, IfOk, length, vec_capacity};
 
 use amount::{Amount, Uint128};
 use book::{Book, Name, PLACES, Place, TRANSFERS, Transfer};
-use libc::{STDIN_FILENO, STDOUT_FILENO};
 use registry::error::Answer;
 use session::{MAX_STEPS, Run, running};
+use std::alloc::{AllocError, Global};
+use std::io;
+use std::io::{BufWriter, Read, Write};
 use steps::{Step, Turn, View};
+
+// The list is read up to here.
+const READ_BYTES: usize = 1572864;
 
 // The kinds of records. 1 to 5 are the steps, as in a session; those from 16 on are none.
 const START: u8 = 0;
@@ -49,14 +54,6 @@ const RUN_ANSWERS: usize = 33;
 
 // No record is so long.
 const NOWHERE: usize = 100000;
-
-fn put(text: &[u8]) {
-    io::write_all(STDOUT_FILENO, text);
-}
-
-fn number(n: u64) {
-    io::print_decimal(STDOUT_FILENO, n);
-}
 
 // ---- records
 
@@ -343,12 +340,10 @@ fn same_name(e: &[u8], at: usize, bytes: [u8; 32], len: u8) -> bool {
     if 4096 < at {
         return false;
     }
-    let mut i: usize = 0;
-    while i < 32 {
+    for i in 0..32 {
         if sheet::byte(e, at + i) != bytes[i] {
             return false;
         }
-        i += 1;
     }
     sheet::byte(e, at + 32) == len
 }
@@ -393,12 +388,10 @@ fn behind(at: usize, used: bool, same: bool, size: usize) -> usize {
 fn behind_places(e: &[u8], book: Book) -> usize {
     let opened = book.opened;
     let mut at: usize = 3;
-    let mut i: usize = 0;
-    while i < 16 {
+    for i in 0..16 {
         let p = i as u16;
         let x = book.places[i];
         at = behind(at, (opened >> p) & 1 == 1, same_place(e, at, x), 49);
-        i += 1;
     }
     at
 }
@@ -406,12 +399,10 @@ fn behind_places(e: &[u8], book: Book) -> usize {
 fn behind_transfers(e: &[u8], start: usize, book: Book) -> usize {
     let pending = book.pending;
     let mut at = start;
-    let mut i: usize = 0;
-    while i < 8 {
+    for i in 0..8 {
         let t = i as u8;
         let r = book.transfers[i];
         at = behind(at, (pending >> t) & 1 == 1, same_transfer(e, at, r), 18);
-        i += 1;
     }
     at
 }
@@ -424,8 +415,7 @@ fn same_book(e: &[u8], book: Book) -> bool {
 
 // `e` holds each step's number and detail. Behind its end are zeros, and so must be the answers of steps that were not done.
 fn same_answers(e: &[u8], run: Run) -> bool {
-    let mut k: usize = 0;
-    while k < MAX_STEPS {
+    for k in 0..MAX_STEPS {
         let a = run.steps[k];
         if a.number != sheet::byte(e, 2 * k) {
             return false;
@@ -433,7 +423,6 @@ fn same_answers(e: &[u8], run: Run) -> bool {
         if a.detail != sheet::byte(e, 2 * k + 1) {
             return false;
         }
-        k += 1;
     }
     true
 }
@@ -456,7 +445,7 @@ fn add(counts: &mut [u64; COUNTS], row: usize, equal: bool, n: u64) {
     }
     let i = if equal { 2 * row } else { 2 * row + 1 };
     if i < COUNTS {
-        counts[i] = std::num::wrapping_add_u64(counts[i], n);
+        counts[i] = counts[i].wrapping_add(n);
     }
 }
 
@@ -464,10 +453,8 @@ fn count(counts: &mut [u64; COUNTS], row: usize, equal: bool) {
     add(counts, row, equal, 1);
 }
 
-fn unequal(at: usize) {
-    put(b"unequal: the record at byte ");
-    number(at as u64);
-    put(b"\n");
+fn unequal(out: &mut impl Write, at: usize) -> io::Result<()> {
+    writeln!(out, "unequal: the record at byte {at}")
 }
 
 // Whether the list's book is as its steps left it (0), was altered (1), or was altered and has met 28 (2).
@@ -493,88 +480,127 @@ struct Done {
 }
 
 // Holds a step's or a start's answer to the record's.
-fn judge_answer(r: &[u8], at: usize, a: Answer, counts: &mut [u64; COUNTS]) {
+fn judge_answer(
+    out: &mut impl Write,
+    r: &[u8],
+    at: usize,
+    a: Answer,
+    counts: &mut [u64; COUNTS],
+) -> io::Result<()> {
     let e = sheet::part(r, answer_at(r), 34);
     let equal = same_answer(e, a);
     if !equal {
-        unequal(at);
+        unequal(out, at)?;
     }
     count(counts, sheet::byte(e, 0) as usize, equal);
+    Ok(())
 }
 
-fn judge_start(r: &[u8], at: usize, counts: &mut [u64; COUNTS]) -> Done {
+fn judge_start(
+    out: &mut impl Write,
+    r: &[u8],
+    at: usize,
+    counts: &mut [u64; COUNTS],
+) -> io::Result<Done> {
     let a = steps::start_answer(body(r));
-    judge_answer(r, at, a, counts);
-    Done {
+    judge_answer(out, r, at, a, counts)?;
+    Ok(Done {
         number: a.number,
         book: steps::start_book(body(r)),
-    }
+    })
 }
 
 // A record of no kind that is known has no answer to be equal to.
-fn judge_step(r: &[u8], at: usize, book: Book, counts: &mut [u64; COUNTS]) -> Done {
+fn judge_step(
+    out: &mut impl Write,
+    r: &[u8],
+    at: usize,
+    book: Book,
+    counts: &mut [u64; COUNTS],
+) -> io::Result<Done> {
     let Entry::Step(step) = step_of(r) else {
-        unequal(at);
-        return Done { number: 0, book };
+        unequal(out, at)?;
+        return Ok(Done { number: 0, book });
     };
     let turn = turn_at(book, step, body(r));
-    judge_answer(r, at, steps::answer_of(turn), counts);
-    Done {
+    judge_answer(out, r, at, steps::answer_of(turn), counts)?;
+    Ok(Done {
         number: turn.number,
         book: stored(book, step, turn, body(r)),
-    }
+    })
 }
 
-fn judge_book(r: &[u8], at: usize, book: Book, counts: &mut [u64; COUNTS], state: u8) {
+fn judge_book(
+    out: &mut impl Write,
+    r: &[u8],
+    at: usize,
+    book: Book,
+    counts: &mut [u64; COUNTS],
+    state: u8,
+) -> io::Result<()> {
     let equal = same_book(body(r), book);
     if !equal {
-        unequal(at);
+        unequal(out, at)?;
     }
     count(counts, BOOKS, equal);
     if state == 2 {
         count(counts, BAD, true);
     }
+    Ok(())
 }
 
 // The list as a session, through the run. It has a book of its own.
-fn judge_run(r: &[u8], at: usize, counts: &mut [u64; COUNTS]) {
+fn judge_run(
+    out: &mut impl Write,
+    r: &[u8],
+    at: usize,
+    counts: &mut [u64; COUNTS],
+) -> io::Result<()> {
     let n = sheet::byte(r, 3);
     let behind = answer_at(r);
     let e = sheet::part(r, behind + 2, sheet::u16_at(r, behind) as usize);
     let equal = same_run(e, n, running::run(body(r)));
     if !equal {
-        unequal(at);
+        unequal(out, at)?;
     }
     count(counts, RUNS, equal);
     add(counts, RUN_ANSWERS, equal, n as u64);
+    Ok(())
 }
 
 // Puts one record to the book.
-fn judge(r: &[u8], at: usize, book: Book, counts: &mut [u64; COUNTS], state: u8) -> Done {
+fn judge(
+    out: &mut impl Write,
+    r: &[u8],
+    at: usize,
+    book: Book,
+    counts: &mut [u64; COUNTS],
+    state: u8,
+) -> io::Result<Done> {
     let kind = sheet::byte(r, 0);
     match kind {
-        START => judge_start(r, at, counts),
+        START => judge_start(out, r, at, counts),
         ALTER => {
             count(counts, ALTERED, true);
-            Done {
+            Ok(Done {
                 number: 0,
                 book: altered(book, r),
-            }
+            })
         }
         LOOK => {
-            judge_book(r, at, book, counts, state);
-            Done { number: 0, book }
+            judge_book(out, r, at, book, counts, state)?;
+            Ok(Done { number: 0, book })
         }
         RUN => {
-            judge_run(r, at, counts);
-            Done { number: 0, book }
+            judge_run(out, r, at, counts)?;
+            Ok(Done { number: 0, book })
         }
-        _ => judge_step(r, at, book, counts),
+        _ => judge_step(out, r, at, book, counts),
     }
 }
 
 // Puts each record to the book as the one before left it, and answers how many bytes are left over.
-fn judge_all(s: &[u8], counts: &mut [u64; COUNTS]) -> usize {
+fn judge_all(out: &mut impl Write, s: &[u8], counts: &mut [u64; COUNTS]) -> io::Result<usize> {
     let mut book = steps::start_book(b"");
     let mut state: u8 = 0;
     let mut at: usize = 0;
@@ -582,79 +608,72 @@ fn judge_all(s: &[u8], counts: &mut [u64; COUNTS]) -> usize {
         let r = &s[at..];
         let n = size(r);
         if n == 0 {
-            return s.len() - at;
+            return Ok(s.len() - at);
         }
-        let done = judge(r, at, book, counts, state);
+        let done = judge(out, r, at, book, counts, state)?;
         state = state_after(state, sheet::byte(r, 0), done.number);
-        let left = done.book;
-        book = left;
+        book = done.book;
         at += n;
     }
-    0
+    Ok(0)
 }
 
 fn count_at(counts: &[u64; COUNTS], i: usize) -> u64 {
     if i < COUNTS { counts[i] } else { 0 }
 }
 
-fn print_row(counts: &[u64; COUNTS], row: usize) {
+fn print_row(out: &mut impl Write, counts: &[u64; COUNTS], row: usize) -> io::Result<()> {
     if row >= COUNTS / 2 {
-        return;
+        return Ok(());
     }
-    put(b": ");
-    number(count_at(counts, 2 * row));
-    put(b" equal, ");
-    number(count_at(counts, 2 * row + 1));
-    put(b" unequal\n");
+    let equal = count_at(counts, 2 * row);
+    let unequal = count_at(counts, 2 * row + 1);
+    writeln!(out, ": {equal} equal, {unequal} unequal")
 }
 
 // A number, where it occurs.
-fn print_number(counts: &[u64; COUNTS], row: usize) {
+fn print_number(out: &mut impl Write, counts: &[u64; COUNTS], row: usize) -> io::Result<()> {
     if row >= BOOKS {
-        return;
+        return Ok(());
     }
     if count_at(counts, 2 * row) == 0 && count_at(counts, 2 * row + 1) == 0 {
-        return;
+        return Ok(());
     }
-    put(b"number ");
-    number(row as u64);
-    print_row(counts, row);
+    write!(out, "number {row}")?;
+    print_row(out, counts, row)
 }
 
-fn print_numbers(counts: &[u64; COUNTS]) {
-    let mut row: usize = 0;
-    while row < BOOKS {
-        print_number(counts, row);
-        row += 1;
+fn print_numbers(out: &mut impl Write, counts: &[u64; COUNTS]) -> io::Result<()> {
+    for row in 0..BOOKS {
+        print_number(out, counts, row)?;
     }
+    Ok(())
 }
 
-// Room for the list. The contract says its length alone, so that no proof counts its bytes.
-fn room() -> [u8; 1572864]
-    ensures { 1572864 ≡ length result }
+// Room for the list.
+fn room(alloc: Global) -> Result<Vec<u8>, AllocError>
+    ensures { IfOk result (λ v. vec_capacity v ≡ 1572864) }
 {
-    [0; 1572864]
+    Vec::with_capacity(alloc, READ_BYTES)
 }
 
-fn main() {
-    let mut space = room();
+fn main(rt: HostRuntime) -> io::Result<()> {
+    let mut list = room(rt.alloc())?;
+    let n = rt.reader().take(READ_BYTES as u64).read_to_end(&mut list)?;
+    let mut out = BufWriter::new(rt.alloc(), io::writer(&rt))?;
     let mut counts = [0u64; COUNTS];
-    let n = io::read_full(STDIN_FILENO, &mut space);
-    let rest = judge_all(&space[..n], &mut counts);
-    print_numbers(&counts);
-    put(b"books at a list's end");
-    print_row(&counts, BOOKS);
-    put(b"alterations: ");
-    number(count_at(&counts, 2 * ALTERED));
-    put(b"\naltered books that met 28: ");
-    number(count_at(&counts, 2 * BAD));
-    put(b"\nlists through the run");
-    print_row(&counts, RUNS);
-    put(b"answers in them: ");
-    number(count_at(&counts, 2 * RUN_ANSWERS));
-    put(b"\nbytes ");
-    number(n as u64);
-    put(b", left over ");
-    number(rest as u64);
-    put(b"\n");
+    let rest = judge_all(&mut out, &list, &mut counts)?;
+    print_numbers(&mut out, &counts)?;
+    write!(out, "books at a list's end")?;
+    print_row(&mut out, &counts, BOOKS)?;
+    let altered = count_at(&counts, 2 * ALTERED);
+    writeln!(out, "alterations: {altered}")?;
+    let bad = count_at(&counts, 2 * BAD);
+    writeln!(out, "altered books that met 28: {bad}")?;
+    write!(out, "lists through the run")?;
+    print_row(&mut out, &counts, RUNS)?;
+    let answers = count_at(&counts, 2 * RUN_ANSWERS);
+    writeln!(out, "answers in them: {answers}")?;
+    writeln!(out, "bytes {n}, left over {rest}")?;
+    out.flush()
 }
