@@ -16,7 +16,7 @@
  * call while a call is under way, given stack for both: a call is as interruptible as any C function. Two calls on one book
  * at once, or a call on bytes that are being written, are the caller's to keep apart.
  *
- * Machines. The archive that `rt staticlib credits` writes is for x86-64 with the System V calling convention (Linux and
+ * Machines. The archive that tools/build-library writes is for x86-64 with the System V calling convention (Linux and
  * its like). This header is for every machine on which the layouts that it asserts hold, a Cortex-M0 among them, for which
  * there is no archive yet.
  *

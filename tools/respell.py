@@ -111,6 +111,8 @@ def turned(path, text, rows):
 
 if __name__ == "__main__":
     names, rows = table()
+    if "wellFormed" not in names:
+        sys.exit("tools/respell.py: these names are spelled as today already")
     met = clashes(names, rows)
     if "--list" in sys.argv or met:
         for old in sorted(rows):

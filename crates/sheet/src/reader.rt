@@ -1,6 +1,5 @@
-// A reader that holds the sheet and the next entry. The borrow checker covers no function over such a struct: those here
-// are proved by hand, so they are few and thin. Each takes the struct apart and calls a covered function on the slice and
-// the number.
+// A reader that holds the sheet and the next entry: few and thin functions, each of which takes the struct apart and calls a
+// function on the slice and the number.
 ghost use Rattle.std.specs.Prelude.{◌≡◌};
 ghost use Rattle.sheet.specs.Visit.{found_at, after_of, reader_of, behind};
 
@@ -62,7 +61,7 @@ pub fn rest<'a>(r: Reader<'a>) -> Reader<'a>
     }
 }
 
-// The first entry. Its parameter is a plain slice, so whoever calls it needs no walk.
+// The first entry, of a plain slice.
 pub fn first(s: &[u8]) -> Step
     ensures { result ≡ found_at s.now 0 }
 {

@@ -97,7 +97,7 @@ module _ (b : Book) (sound : is_well_formed b ≡ true) (p o : ℕ) (i : List �
               (rw (held, ← val_of (asks_number amount _ _ a r)) l))))
               (after_taking _ i down _ _ _)) refl
 
--- ---- the needs
+-- ---- the goals
 pub returns-then-place-ge-PLACES : goal.returns-then-place-ge-PLACES
 unfolding tests_act
 returns-then-place-ge-PLACES c b sound v a =

@@ -26,7 +26,7 @@ module _ (b : Book) (t : ℕ) (i : List ℕ) (back : Bool) (sound : is_well_form
   unfolding tests_finish
   taken busy = all_passed (pass past_2 (rw (ending_tests t i back (seen b), busy))) (rw (ending_tests t i back (seen b)))
 
--- ---- the needs
+-- ---- the goals
 pub returns-then-transfer-ge-TRANSFERS : goal.returns-then-transfer-ge-TRANSFERS
 unfolding tests_finish
 returns-then-transfer-ge-TRANSFERS c b i back sound v =
