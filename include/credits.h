@@ -23,13 +23,13 @@
  * Stack. The deepest that was measured below each call on x86-64, in bytes, without the result's own memory. It is measured
  * on many inputs and not proved; docs/PERFORMANCE.md says how, and has estimates for a Cortex-M0.
  *
- *   credits_amount_read      120    credits_credit         1080    credits_book_finish      1768
- *   credits_amount_compare    96    credits_book_start     2536    credits_book_cancel      1768
- *   credits_amount_add       104    credits_book_open      2008    credits_session_run      6424
- *   credits_amount_sub       104    credits_book_act       2008    credits_session_listing  6440
- *   credits_amount_text      720    credits_book_begin     2008
- *   credits_check           1064
- *   credits_apply           1096
+ *   credits_amount_read      144    credits_credit         1392    credits_book_finish      2024
+ *   credits_amount_compare    56    credits_book_start     1448    credits_book_cancel      2024
+ *   credits_amount_add       104    credits_book_open      2128    credits_session_run      8976
+ *   credits_amount_sub       104    credits_book_act       2128    credits_session_listing  8992
+ *   credits_amount_text      968    credits_book_begin     2128
+ *   credits_check           1536
+ *   credits_apply           1776
  */
 #ifndef CREDITS_H
 #define CREDITS_H

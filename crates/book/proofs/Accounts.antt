@@ -177,7 +177,7 @@ sent_is b g i sent here e = fun_ext e ∙ ap (λ (v : Sight). put_field (field i
 
 module _ (b : Book) (sound : is_well_formed b ≡ true) (i : List ℕ) (sheet : sheet_sound i ≡ Accepted) where
   -- An open that passes the book's own tests answers, number, detail and amounts, what check of create answers where there is no sheet.
-  -- Premises: those of `open-is-check`, so a book that passes 28 and a sound sheet; 22, 5, 26, 27 and 25 are not met.
+  -- Premises: those of `open_is_check`, so a book that passes 28 and a sound sheet; 22, 5, 26, 27 and 25 are not met.
   pub open_is_its_sheet's_check : (p : ℕ) → p < 16 → is_some (place_at b p) ≡ false → same_bytes (name_bytes b.unit) (bytes_in unit i) ≡ true
       → length (bytes_in subject i) ≤ 32 → total b + credits_in balance i < limit
       → book_answer_of (answer b (Open p i)) ≡ profile.answer_of (check_of 2 11 [] i)
@@ -187,7 +187,7 @@ module _ (b : Book) (sound : is_well_formed b ≡ true) (i : List ℕ) (sheet : 
       (seen_check [] ((seen b).place p) (no_sheet ∙ sym (closed_seen b p closed)) refl i (sheet_is_input i sheet) 11 refl)
 
   -- An act that passes the book's own tests answers what check answers for the account's sheet.
-  -- Premises: those of `act-is-check`, so 22, 6, 4 and 25 are not met; and the balance is of two 64-bit halves.
+  -- Premises: those of `act_is_check`, so 22, 6, 4 and 25 are not met; and the balance is of two 64-bit halves.
   pub act_is_its_sheet's_check : (p o : ℕ) → p < 16 → is_some (place_at b p) ≡ true → Sized (place_record b p).balance → acts o ≡ true
       → (adds o ≡ true → total b + credits_in amount i < limit)
       → book_answer_of (answer b (Act p o i)) ≡ profile.answer_of (check_of 2 o (sheet_at b p) i)
@@ -198,7 +198,7 @@ module _ (b : Book) (sound : is_well_formed b ≡ true) (i : List ℕ) (sheet : 
       (seen_check (sheet_at b p) ((seen b).place p) (account_seen b f p low here sized) (account_sound b f p low here sized 1) i (sheet_is_input i sheet) o (of_balances o known))
 
   -- A begin that passes the book's own tests answers what check of transfer answers for the source's sheet and the sheet `sent`.
-  -- Premises: those of `begin-is-check`, so 22, 24, 21 and 6 are not met; the source's balance is of two 64-bit halves; `sent` is a sound
+  -- Premises: those of `begin_is_check`, so 22, 24, 21 and 6 are not met; the source's balance is of two 64-bit halves; `sent` is a sound
   -- input, the step's sheet with the destination's subject as to_subject.
   pub begin_is_its_sheet's_check : (f g t : ℕ) → f < 16 → g < 16 → t < 8 → f ≢ g → is_some (transfer_at b t) ≡ false
       → is_some (place_at b f) ≡ true → is_some (place_at b g) ≡ true → Sized (place_record b f).balance

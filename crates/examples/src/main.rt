@@ -1,4 +1,4 @@
-// Prints the listing of each example, by the function that C gets: standard input is every session of examples/ in the order of
+// Prints the listing of each example, by the function under C's export: standard input is every session of examples/ in the order of
 // their names, each behind its length of 16 bits. tools/example_cases joins them.
 #![tactic(auto)]
 

@@ -1,4 +1,4 @@
--- What the test of a state's form says: its three fields, one by one. `no_stack`, `no-balance` and `no-meter` say by which name a
+-- What the test of a state's form says: its three fields, one by one. `no_stack`, `no_balance` and `no_meter` say by which name a
 -- form is known.
 use mathlib.Core.Path.{◌≡◌, refl}
 use mathlib.Core.Bool.{Bool, true, false, ◌&&◌}

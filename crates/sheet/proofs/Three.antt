@@ -1,6 +1,6 @@
 -- "A state sheet is a stack (1 and 2 text, 3 amount), a balance (1 and 2 text, 4 amount) or a meter (1 text, 5 and 6 amounts)":
--- a sound state has exactly its three fields, and is of one kind. The theorems are `stack-has`, `balance-has`, `meter-has`
--- and `stack_is`, `balance-is`, `meter-is`.
+-- a sound state has exactly its three fields, and is of one kind. The theorems are `stack_has`, `balance_has`, `meter_has`
+-- and `stack_is`, `balance_is`, `meter_is`.
 use mathlib.Core.Path.{◌≡◌, refl, ◌∙◌}
 use mathlib.Core.Bool.{Bool, true, false, cond}
 use mathlib.Core.List.{List, [], ◌∷◌}

@@ -12,7 +12,7 @@ pub const PLACES: u8 = book::PLACES as u8;
 
 pub const TRANSFERS: u8 = book::TRANSFERS as u8;
 
-// A sheet is passed beside it: an enum holds no reference.
+// A sheet is passed beside it.
 #[derive(Clone, Copy)]
 pub enum Step {
     Open(u8),

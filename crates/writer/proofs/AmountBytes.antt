@@ -1,4 +1,4 @@
--- "3 amount (17 bytes: mantissa, scale)": the bytes of an amount read back as the amount. The theorem is `amount-back`.
+-- "3 amount (17 bytes: mantissa, scale)": the bytes of an amount read back as the amount. The theorem is `amount_back`.
 use mathlib.Core.Path.{◌≡◌}
 use mathlib.Core.List.{List, ◌∷◌, ◌++◌}
 use Prim.Native.Nat.{ℕ, ◌+◌, ◌*◌, ◌/◌, ◌%◌, ◌<◌, ◌^◌}

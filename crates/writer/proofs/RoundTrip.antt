@@ -1,5 +1,5 @@
 -- "The sheet written is of the profile's kind": a written state sheet is sound and of its kind, and its fields are what was
--- written, for texts up to 256 bytes. The theorems are `stack-back`, `balance-back` and `meter-back`.
+-- written, for texts up to 256 bytes. The theorems are `stack_back`, `balance_back` and `meter_back`.
 use mathlib.Core.Path.{◌≡◌, refl, sym, ap, ◌∙◌}
 use mathlib.Core.List.{List, [], ◌∷◌, ◌++◌}
 use mathlib.Core.Bool.{true}
