@@ -1,12 +1,14 @@
 -- Laws of the whole canonical text: its length, and the bytes that it is put together from.
-use Rattle.std.proofs.Common.{◌≡◌, ℕ, zero, suc, ◌+◌, ◌-◌, ◌*◌, ◌/◌, ◌^◌, ◌<◌, ◌≤◌, List, ◌∷◌, ◌++◌, length, replicate, sym, refl, ap, ◌∙◌, ⊎_elim, append_assoc, lt_of_le_of_lt, mul-le-mul_right, eq-zero-or-pos, not-le_of_lt, div-mul-le_self, arith, lit≤, length-append, pow-add}
+use Rattle.std.proofs.Common.{◌≡◌, ℕ, zero, suc, ◌+◌, ◌-◌, ◌*◌, ◌/◌, ◌^◌, ◌<◌, ◌≤◌, List, ◌∷◌, ◌++◌, length, take, replicate, sym, refl, ap, ◌∙◌, ⊎_elim, append_assoc, lt_of_le_of_lt, mul-le-mul_right, eq-zero-or-pos, not-le_of_lt, div-mul-le_self, arith, lit≤, length-append, pow-add}
 use Prim.{absurd}
 use native.Mathlib.Nat.{pow-le-pow_right, sub_self}
 use lib.ListN.{replicate-append-replicate}
+use Rattle.std.proofs.Math.Seq.{take-append_seam}
+use Rattle.std.proofs.lemmas.Bool.{cases_lt}
 use Rattle.amount.specs.Numbers.{val, limit}
 use Rattle.amount.specs.Canonical.{strip, last_digits, width_up_to, width_of, whole_text, decimal_text, canonical_text, zeros, as_text}
 use Rattle.amount.specs.declared.Amount.{Amount}
-use Rattle.amount.proofs.Widths.{below_or_not, width_stop, width_bounds, width_lower}
+use Rattle.amount.proofs.Widths.{width_stop, width_bounds, width_lower}
 
 pub zeros_split : (a b : ℕ) → a ≤ b → zeros b ≡ zeros a ++ zeros (b - a)
 unfolding zeros
@@ -31,7 +33,7 @@ ten_small k h =
     (λ l.
     let p : 10 ^ 39 < 2 ^ 128 = lt_of_le_of_lt (pow-le-pow_right {n = 10} (omega arith) l) h in
     absurd (not-le_of_lt p (lit≤ tt)))
-    (below_or_not k 39)
+    (cases_lt k 39)
 
 pub text_fits : (m s q : ℕ) → m < limit → s ≤ 255 → q ≡ m / 10 ^ s → width_of q + 1 + s ≤ 257
 unfolding width_of
@@ -52,6 +54,11 @@ width_few q = (width_bounds 38 q).1
 text_of : (t b : List ℕ) (len : ℕ) → length t ≡ len → b ≡ t ++ zeros (257 - len) → record { bytes = b; len = len } ≡ as_text t
 unfolding as_text
 text_of t b len e f = rw (f, e)
+
+-- the bytes that the array's text is read back from
+pub text_bytes : (t : List ℕ) → take (as_text t).len (as_text t).bytes ≡ t
+unfolding as_text
+text_bytes t = take-append_seam t (zeros (257 - length t))
 
 decimal_whole : (m s w : ℕ) → s ≡ 0 → w ≡ width_of m → decimal_text m s ≡ last_digits w m
 unfolding decimal_text whole_text

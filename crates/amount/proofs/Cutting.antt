@@ -1,12 +1,13 @@
 -- Laws of m / 10^s in decimal, cut at its point: its value and its form.
 use Rattle.std.proofs.Common.{◌≡◌, ℕ, zero, suc, ◌+◌, ◌-◌, ◌/◌, ◌%◌, ◌^◌, ◌<◌, ◌≤◌, true, ◌⊎◌, List, [], ◌∷◌, ◌++◌, length, get_or, sym, refl, ◌∙◌, ⊎_elim, append-nil, lt_of_le_of_lt, mod-eq_of_lt, div-lt_iff_lt-mul, pow-suc, div-add-mod', le-div_iff_mul-le, div-le_self, div-one, arith, length-append}
 use mathlib.Core.Bool.{false≢true}
+use Rattle.std.proofs.lemmas.Bool.{cases_lt}
 use Rattle.amount.specs.Numbers.{limit}
 use Rattle.amount.specs.Decimal.{all_digits, decimal}
 use Rattle.amount.specs.Canonical.{last_digits, width_up_to, width_of, whole_text, decimal_text}
 use Rattle.amount.specs.Texts.{pointed, before_point, behind_point, digits_in, places_in, Canonical}
 use Rattle.amount.proofs.Scaling.{ten_pos}
-use Rattle.amount.proofs.Widths.{below_or_not, small, width_stop, width_bounds, width_lower, width_upper}
+use Rattle.amount.proofs.Widths.{small, width_stop, width_bounds, width_lower, width_upper}
 use Rattle.amount.proofs.Texts.{digits_are, digits_append, number_parts, number_whole, last_digit, before_point_lem, behind_point_lem, unpointed}
 use Rattle.amount.proofs.Assembling.{length_digits, text_fits}
 
@@ -94,7 +95,7 @@ whole_starts n f e =
     let d : 48 + n / 10 ^ (w - 1) % 10 ≡ 48 = sym (whole_first n []) ∙ rw (append-nil (whole_text n)) e in
     ⊎_elim (λ l. width_stop 38 n l)
     (λ l. absurd (first_not_zero n (w - 1) (width_lower 38 n (omega arith)) (rw s (width_upper 38 n (small n f))) (omega (arith, d))))
-    (below_or_not n 10)
+    (cases_lt n 10)
 
 module _ {m s : ℕ} {t : List ℕ} (c : Cut m s t) (f : m < limit) where
   part_fits : m / 10 ^ s < limit

@@ -1,27 +1,19 @@
 -- Laws of the definitions of `specs/Numbers.antt`: which answer a fact on halves leads to.
-use Rattle.std.proofs.Common.{◌≡◌, ℕ, zero, suc, ◌+◌, ◌-◌, ◌*◌, ◌/◌, ◌%◌, ◌^◌, ◌<◌, ◌≤◌, Bool, true, false, cond, eqb, ltb, leb, sym, refl, ap, ◌∙◌, le_trans, lt_trans, le-add_right, mul-le-mul_right, mod-lt, mod-eq_of_lt, mul_assoc, div-lt_iff_lt-mul, add-mul, div-add-mod', mul_right_comm, arith, lit<, ltb-false, ltb-true, le-ltb, lt-ltb, eq-eqb, ne_eqb, eqb-true, le-leb, leb-false, leb-true}
+use Rattle.std.proofs.Common.{◌≡◌, ℕ, zero, suc, ◌+◌, ◌-◌, ◌*◌, ◌/◌, ◌%◌, ◌^◌, ◌<◌, ◌≤◌, Bool, true, false, cond, Some, None, ltb, leb, sym, refl, ap, ◌∙◌, le_trans, lt_trans, le-add_right, mul-le-mul_right, mod-lt, mod-eq_of_lt, mul_assoc, add-mul, div-add-mod', mul_right_comm, arith, lit<, ltb-false, ltb-true, le-ltb, lt-ltb, le-leb, leb-false, leb-true}
 use native.Mathlib.Nat.{add-mul-mod_self_right, add-mod_right}
-use lib.Arith.{digits_lt, digits_div, digits_mod, lt_of_le-ne}
-use borrow.Author.Tests.{lt-leb, eqb-false}
+use lib.Arith.{digits_lt, digits_div, digits_mod}
+use borrow.Author.Tests.{lt-leb}
 use Rattle.amount.specs.Numbers.{val, limit, halves, order_of}
-use Rattle.amount.specs.Helpers.{checked, checked_less, tenths, division_of}
+use Rattle.amount.specs.Helpers.{checked, checked_less, division_of}
+pub use Rattle.amount.specs.Order.{order_less, order_equal, order_greater, OrderFact, order_fact}
 use Rattle.amount.specs.declared.uint128.Uint128.{Uint128}
 use Rattle.amount.specs.declared.uint128.Division.{Division}
-use Rattle.amount.specs.declared.uint128.Ordering.{Ordering}
-use Rattle.amount.specs.declared.uint128.Ordering.TheVariants.{Less, Equal, Greater}
-use Rattle.amount.specs.declared.uint128.Checked.TheVariants.{Some, None}
-
-pub order_less : (a b : ℕ) → a < b → Less ≡ order_of a b
-unfolding order_of
-order_less a b h = simp (lt-ltb a b h)
-
-pub order_equal : (a b : ℕ) → a ≡ b → Equal ≡ order_of a b
-unfolding order_of
-order_equal a b h = simp (le-ltb a b (omega arith), eq-eqb a b h)
-
-pub order_greater : (a b : ℕ) → b < a → Greater ≡ order_of a b
-unfolding order_of
-order_greater a b h = simp (le-ltb a b (omega arith), ne_eqb a b (λ e. omega arith))
+use Rattle.std.specs.Int.{from_bool}
+use Rattle.std.specs.Ordering.{nat_cmp, ordering_then}
+use Rattle.std.specs.declared.cmp.Ordering.{Ordering}
+use Rattle.std.specs.declared.cmp.Ordering.TheVariants.{Less, Equal, Greater}
+use Rattle.std.proofs.lemmas.Cmp.{ranked}
+use Rattle.std.proofs.lemmas.Option.{cond_some}
 
 -- the order of two numbers by their upper halves, then by their lower ones
 pub val_lt_hi : (x y : Uint128) → x.lo < 2 ^ 64 → x.hi < y.hi → val x < val y
@@ -35,6 +27,18 @@ val_lt_lo x y h l = omega arith
 pub val_eq : (x y : Uint128) → x.hi ≡ y.hi → x.lo ≡ y.lo → val x ≡ val y
 unfolding val
 val_eq x y h l = omega arith
+
+by_halves : (x y : Uint128) → x.lo < 2 ^ 64 → y.lo < 2 ^ 64 → (o p : Ordering) → OrderFact o x.hi y.hi → OrderFact p x.lo y.lo → ordering_then o p ≡ order_of (val x) (val y)
+by_halves x y g h Less p e f = order_less _ _ (val_lt_hi x y g e)
+by_halves x y g h Equal Less e f = order_less _ _ (val_lt_lo x y e f)
+by_halves x y g h Equal Equal e f = order_equal _ _ (val_eq x y e f)
+by_halves x y g h Equal Greater e f = order_greater _ _ (val_lt_lo y x (sym e) f)
+by_halves x y g h Greater p e f = order_greater _ _ (val_lt_hi y x h e)
+
+-- what the derived `cmp` answers is the order of the numbers
+pub halves_order : (x y : Uint128) → x.lo < 2 ^ 64 → y.lo < 2 ^ 64 → ordering_then (nat_cmp x.hi y.hi) (nat_cmp x.lo y.lo) ≡ order_of (val x) (val y)
+halves_order x y g h =
+    by_halves x y g h (nat_cmp x.hi y.hi) (nat_cmp x.lo y.lo) (ranked x.hi y.hi (nat_cmp x.hi y.hi) refl) (ranked x.lo y.lo (nat_cmp x.lo y.lo) refl)
 
 -- the halves of a number are those that it is made of
 pub halves_of : (x : Uint128) (n : ℕ) → x.lo < 2 ^ 64 → val x ≡ n → x ≡ halves n
@@ -60,32 +64,13 @@ pub difference_outside : (a b : ℕ) → a < b → None ≡ checked_less a b
 unfolding checked_less
 difference_outside a b f = simp (lt-leb b a f)
 
--- a sum and a difference by halves, with a carry k
-pub sum_halves : (x y : Uint128) (k l : ℕ) → k * 2 ^ 64 + l ≡ x.lo + y.lo → (x.hi + y.hi + k) * 2 ^ 64 + l ≡ val x + val y
-unfolding val
-sum_halves x y k l e = omega arith
-
-pub difference_halves : (x y z : Uint128) (k : ℕ) → x.hi + y.hi + k ≡ z.hi → x.lo + y.lo ≡ z.lo + k * 2 ^ 64 → val x + val y ≡ val z
-unfolding val
-difference_halves x y z k e f = omega arith
-
 -- a word x times f and a more, by halves of the word
-module _ (x f a : ℕ) (g : f < 2 ^ 32) (h : a < 2 ^ 32) where
+module _ (x f a : ℕ) where
   abbrev product_first : ℕ
   product_first = x % 2 ^ 32 * f + a
 
   abbrev product_second : ℕ
   product_second = x / 2 ^ 32 * f + product_first / 2 ^ 32
-
-  pub first_fits : product_first < 2 ^ 64
-  first_fits =
-      let p : x % 2 ^ 32 * f ≤ (2 ^ 32 - 1) * f = mul-le-mul_right f (omega arith) in
-      omega arith
-
-  pub second_fits : x < 2 ^ 64 → product_second < 2 ^ 64
-  second_fits e =
-      let p : x / 2 ^ 32 * f ≤ (2 ^ 32 - 1) * f = mul-le-mul_right f (omega arith) in
-      omega (arith, first_fits)
 
   pub product_join : product_second / 2 ^ 32 * 2 ^ 64 + (product_second % 2 ^ 32 * 2 ^ 32 + product_first % 2 ^ 32) ≡ x * f + a
   product_join =
@@ -99,29 +84,6 @@ unfolding val
 times_halves x f d k h l e g =
     let p : (x.hi * 2 ^ 64 + x.lo) * f ≡ x.hi * f * 2 ^ 64 + x.lo * f = add-mul (x.hi * 2 ^ 64) x.lo f ∙ rw (mul_right_comm x.hi (2 ^ 64) f) in
     omega (arith, p)
-
--- a word x with b before it, divided by halves of the word
-module _ (b x d : ℕ) where
-  abbrev upper : ℕ
-  upper = b * 2 ^ 32 + x / 2 ^ 32
-
-  abbrev lower : ℕ
-  lower = upper % d * 2 ^ 32 + x % 2 ^ 32
-
-  module _ (f : b < d) where
-    pub rest_below : upper % d < d
-    rest_below = mod-lt upper (omega arith)
-
-    pub upper_small : x < 2 ^ 64 → upper / d < 2 ^ 32
-    upper_small g = (div-lt_iff_lt-mul {k = d} {x = upper} {y = 2 ^ 32} (omega arith)).1 (omega arith)
-
-    pub lower_small : lower / d < 2 ^ 32
-    lower_small = (div-lt_iff_lt-mul {k = d} {x = lower} {y = 2 ^ 32} (omega arith)).1 (omega (arith, rest_below))
-
-  pub parts_join : b * 2 ^ 64 + x ≡ (upper / d * 2 ^ 32 + lower / d) * d + lower % d
-  parts_join =
-      let p : (upper / d * 2 ^ 32 + lower / d) * d ≡ upper / d * d * 2 ^ 32 + lower / d * d = add-mul (upper / d * 2 ^ 32) (lower / d) d ∙ rw (mul_right_comm (upper / d) (2 ^ 32) d) in
-      omega (arith, p, div-add-mod' upper d, div-add-mod' lower d)
 
 -- a division by halves
 pub division_halves : (q x : Uint128) (m r d : ℕ) → x.hi ≡ q.hi * d + m → m * 2 ^ 64 + x.lo ≡ q.lo * d + r → val q * d + r ≡ val x
@@ -138,10 +100,6 @@ division_is q r n d h b e =
 pub division_low : (x : Uint128) (d : ℕ) → x.hi ≡ 0 → x.lo / d < 2 ^ 64 → 0 < d → record { quotient = record { hi = 0; lo = x.lo / d }; rest = x.lo % d } ≡ division_of (val x) d
 division_low x d z h p =
     division_is _ _ _ d h (mod-lt x.lo p) (division_halves _ x 0 (x.lo % d) d (omega arith) (omega (arith, div-add-mod' x.lo d)))
-
-pub division_ten : (n : ℕ) (d : Division) → d ≡ division_of n 10 → record { quotient = d.quotient; digit = d.rest } ≡ tenths n
-unfolding division_of tenths
-division_ten n d e = rw e
 
 pub division_quotient : (n d : ℕ) → (division_of n d).quotient ≡ halves (n / d)
 unfolding division_of
@@ -181,52 +139,26 @@ pub val_halves : (n : ℕ) → val (halves n) ≡ n
 unfolding val halves
 val_halves n = div-add-mod' n (2 ^ 64)
 
-number_case : (t : Bool) (n : ℕ) (x : Uint128) → ltb n limit ≡ t → Some x ≡ cond t (Some (halves n)) None → (n < limit) × (x ≡ halves n)
-number_case true n x e h = (ltb-true n limit e, cc)
-number_case false n x e h = let z : ◌≡◌ {A = ℕ} 0 1 = cc in (omega arith, cc)
+-- a condition that gives nothing
+pub cond_none : {A : Type 0} (t : Bool) (x : A) → None ≡ cond t (Some x) None → t ≡ false
+cond_none true x h = cc
+cond_none false x h = refl
 
 pub checked_is : (n : ℕ) (x : Uint128) → Some x ≡ checked n → (n < limit) × (x ≡ halves n)
 unfolding checked
-checked_is n x h = number_case (ltb n limit) n x refl h
-
-outside_case : (t : Bool) (n : ℕ) → ltb n limit ≡ t → None ≡ cond t (Some (halves n)) None → limit ≤ n
-outside_case true n e h = let z : ◌≡◌ {A = ℕ} 0 1 = cc in omega arith
-outside_case false n e h = ltb-false n limit e
+checked_is n x h = let k = cond_some (ltb n limit) (halves n) x (sym h) in (ltb-true n limit k.0, sym k.1)
 
 pub checked_none : (n : ℕ) → None ≡ checked n → limit ≤ n
 unfolding checked
-checked_none n h = outside_case (ltb n limit) n refl h
-
--- what an order tells a caller
-abbrev pub OrderFact : Ordering → ℕ → ℕ → Type 0
-OrderFact Less a b = a < b
-OrderFact Equal a b = a ≡ b
-OrderFact Greater a b = b < a
-
-order_case : (t u : Bool) (a b : ℕ) → ltb a b ≡ t → eqb a b ≡ u → OrderFact (cond t Less (cond u Equal Greater)) a b
-order_case true u a b p q = ltb-true a b p
-order_case false true a b p q = eqb-true a b q
-order_case false false a b p q = lt_of_le-ne (ltb-false a b p) (λ e. eqb-false a b q (sym e))
-
-pub order_fact : (a b : ℕ) → OrderFact (order_of a b) a b
-unfolding order_of
-order_fact a b = order_case (ltb a b) (eqb a b) a b refl refl
-
-difference_number_case : (t : Bool) (a b : ℕ) (x : Uint128) → leb b a ≡ t → Some x ≡ cond t (Some (halves (a - b))) None → (b ≤ a) × (x ≡ halves (a - b))
-difference_number_case true a b x e h = (leb-true b a e, cc)
-difference_number_case false a b x e h = let z : ◌≡◌ {A = ℕ} 0 1 = cc in (omega arith, cc)
+checked_none n h = ltb-false n limit (cond_none (ltb n limit) (halves n) h)
 
 pub difference_is : (a b : ℕ) (x : Uint128) → Some x ≡ checked_less a b → (b ≤ a) × (x ≡ halves (a - b))
 unfolding checked_less
-difference_is a b x h = difference_number_case (leb b a) a b x refl h
-
-difference_outside_case : (t : Bool) (a b : ℕ) → leb b a ≡ t → None ≡ cond t (Some (halves (a - b))) None → a < b
-difference_outside_case true a b e h = let z : ◌≡◌ {A = ℕ} 0 1 = cc in omega arith
-difference_outside_case false a b e h = leb-false b a e
+difference_is a b x h = let k = cond_some (leb b a) (halves (a - b)) x (sym h) in (leb-true b a k.0, sym k.1)
 
 pub difference_none : (a b : ℕ) → None ≡ checked_less a b → a < b
 unfolding checked_less
-difference_none a b h = difference_outside_case (leb b a) a b refl h
+difference_none a b h = leb-false b a (cond_none (leb b a) (halves (a - b)) h)
 
 -- a number that its halves determine
 pub record Whole (x : Uint128) : Type 0 where
@@ -251,21 +183,13 @@ pub checked_large : {n : ℕ} → limit ≤ n → None ≡ checked n
 unfolding checked
 checked_large {n} h = simp (le-ltb n limit h)
 
-pub tenths_quotient : (n : ℕ) → (tenths n).quotient ≡ halves (n / 10)
-unfolding tenths
-tenths_quotient n = refl
-
-pub tenths_digit : (n : ℕ) → (tenths n).digit ≡ n % 10
-unfolding tenths
-tenths_digit n = refl
-
 pub order_is : {o : Ordering} (a b : ℕ) → o ≡ order_of a b → OrderFact o a b
 order_is a b e = rw e (order_fact a b)
 
-pub division_val : {x : Division} (n d : ℕ) → x ≡ division_of n d → val x.quotient ≡ n / d
+pub division_val : {x : Division Uint128} (n d : ℕ) → x ≡ division_of n d → val x.quotient ≡ n / d
 division_val n d e = rw (e, division_quotient n d) (val_halves (n / d))
 
-pub division_left : {x : Division} (n d : ℕ) → x ≡ division_of n d → x.rest ≡ n % d
+pub division_left : {x : Division Uint128} (n d : ℕ) → x ≡ division_of n d → x.rest ≡ n % d
 division_left n d e = rw (e, division_rest n d)
 
 -- a word divided
@@ -275,34 +199,15 @@ word_quotient x d z = sym (val_zero (record { hi = 0; lo = x.lo / d }) refl) ∙
 pub word_rest : (x : Uint128) (d : ℕ) → x.hi ≡ 0 → x.lo % d ≡ val x % d
 word_rest x d z = ap (λ (n : ℕ). n % d) (val_zero x z)
 
--- ---- sums and differences that wrap
+-- ---- sums and differences: one carry passes the lower half, and one the upper half
 
--- a sum by halves: k passes the lower half, and q the upper one
-carried : (x x' y y' z z' k t : ℕ) → z + t ≡ x + y + k → z' + k * 2 ^ 64 ≡ x' + y'
-    → z * 2 ^ 64 + z' + t * 2 ^ 64 ≡ x * 2 ^ 64 + x' + (y * 2 ^ 64 + y')
+carried : (x x' y y' z z' k t : ℕ) → z + t ≡ x + y + k → z' + k * 2 ^ 64 ≡ x' + y' → z * 2 ^ 64 + z' + t * 2 ^ 64 ≡ x * 2 ^ 64 + x' + (y * 2 ^ 64 + y')
 carried x x' y y' z z' k t e f = omega arith
 
-sum_carried : (x y z : Uint128) (k q : ℕ) → z.hi + q * 2 ^ 64 ≡ x.hi + y.hi + k → z.lo + k * 2 ^ 64 ≡ x.lo + y.lo
-    → val z + q * limit ≡ val x + val y
+sum_carried : (x y z : Uint128) (k q : ℕ) → z.hi + q * 2 ^ 64 ≡ x.hi + y.hi + k → z.lo + k * 2 ^ 64 ≡ x.lo + y.lo → val z + q * limit ≡ val x + val y
 unfolding val limit
 sum_carried x y z k q e f =
-    ap (λ (n : ℕ). z.hi * 2 ^ 64 + z.lo + n) (sym (mul_assoc q (2 ^ 64) (2 ^ 64)))
-    ∙ carried x.hi x.lo y.hi y.lo z.hi z.lo k (q * 2 ^ 64) e f
-
--- what a sum leaves of the upper half, and what passes it
-parted : (n h : ℕ) → h ≡ n % 2 ^ 64 → h + n / 2 ^ 64 * 2 ^ 64 ≡ n
-parted n h e = omega (arith, div-add-mod' n (2 ^ 64))
-
-pub sum_wraps : (x y z : Uint128) (k : ℕ) → z.hi < 2 ^ 64 → z.lo < 2 ^ 64
-    → z.hi ≡ (x.hi + y.hi + k) % 2 ^ 64 → z.lo + k * 2 ^ 64 ≡ x.lo + y.lo → z ≡ halves ((val x + val y) % limit)
-sum_wraps x y z k g h e f =
-    let q : ℕ = (x.hi + y.hi + k) / 2 ^ 64 in
-    let w : Whole z = whole_of z g h in
-    let s : (val z + q * limit) % limit ≡ val z = add-mul-mod_self_right (val z) q limit ∙ mod-eq_of_lt w.fits in
-    w.whole ∙ ap halves (sym s ∙ ap (λ (n : ℕ). n % limit) (sum_carried x y z k q (parted (x.hi + y.hi + k) z.hi e) f))
-
-one_passes : (a b k : ℕ) → k ≤ 1 → a < 2 ^ 64 → b < 2 ^ 64 → (a + b + k) / 2 ^ 64 < 2
-one_passes a b k h f g = omega arith
+    ap (λ (n : ℕ). z.hi * 2 ^ 64 + z.lo + n) (sym (mul_assoc q (2 ^ 64) (2 ^ 64))) ∙ carried x.hi x.lo y.hi y.lo z.hi z.lo k (q * 2 ^ 64) e f
 
 -- m less n, as it wraps, where q is what passes the sum of n and what is left
 less_wraps : (m n l r q : ℕ) → q < 2 → n < l → r < l → m + q * l ≡ r + n → r ≡ (m + (l - n)) % l
@@ -314,13 +219,49 @@ less_wraps m n l r (suc zero) b g h e =
     sym (ap (λ (k : ℕ). k % l) d ∙ mod-eq_of_lt h)
 less_wraps m n l r (suc (suc q)) b g h e = absurd (omega arith)
 
-pub difference_wraps : (x y z : Uint128) (k : ℕ) → k ≤ 1 → y.hi < 2 ^ 64 → y.lo < 2 ^ 64 → z.hi < 2 ^ 64 → z.lo < 2 ^ 64
-    → x.hi ≡ (z.hi + y.hi + k) % 2 ^ 64 → x.lo + k * 2 ^ 64 ≡ z.lo + y.lo → z ≡ halves ((val x + (limit - val y)) % limit)
-difference_wraps x y z k b gy hy g h e f =
-    let q : ℕ = (z.hi + y.hi + k) / 2 ^ 64 in
-    let w : Whole z = whole_of z g h in
-    let s = sum_carried z y x k q (parted (z.hi + y.hi + k) x.hi e) f in
-    w.whole ∙ ap halves (less_wraps (val x) (val y) limit (val z) q (one_passes z.hi y.hi k b g gy) (whole_of y gy hy).fits w.fits s)
+bit : (t : Bool) → from_bool t < 2
+bit true = omega arith
+bit false = omega arith
+
+-- the lower half l of x + y, with the carry k
+module _ (x y : Uint128) (l : ℕ) (k : Bool) (e : l + from_bool k * 2 ^ 64 ≡ x.lo + y.lo + from_bool false) where
+  sum_halves : (x.hi + y.hi + from_bool k) * 2 ^ 64 + l ≡ val x + val y
+  unfolding val
+  sum_halves = omega arith
+
+  pub sum_over : 2 ^ 64 ≤ x.hi + y.hi + from_bool k → None ≡ checked (val x + val y)
+  sum_over h = checked_outside _ _ _ h sum_halves
+
+  pub sum_within : (h : ℕ) → h ≡ x.hi + y.hi + from_bool k → h < 2 ^ 64 → l < 2 ^ 64 → Some (record { hi = h; lo = l }) ≡ checked (val x + val y)
+  unfolding val
+  sum_within h f p q = checked_number _ _ p q (rw f sum_halves)
+
+  -- with what passes the upper half
+  pub sum_wraps : (h : ℕ) (t : Bool) → h + from_bool t * 2 ^ 64 ≡ x.hi + y.hi + from_bool k → h < 2 ^ 64 → l < 2 ^ 64 → record { hi = h; lo = l } ≡ halves ((val x + val y) % limit)
+  sum_wraps h t f p q =
+      let z : Uint128 = record { hi = h; lo = l } in
+      let w : Whole z = whole_of z p q in
+      let s : (val z + from_bool t * limit) % limit ≡ val z = add-mul-mod_self_right (val z) (from_bool t) limit ∙ mod-eq_of_lt w.fits in
+      w.whole ∙ ap halves (sym s ∙ ap (λ (n : ℕ). n % limit) (sum_carried x y z (from_bool k) (from_bool t) f (omega arith)))
+
+-- the lower half l of x - y, with the borrow k
+module _ (x y : Uint128) (l : ℕ) (k : Bool) (e : l + y.lo + from_bool false ≡ x.lo + from_bool k * 2 ^ 64) where
+  pub difference_below : l < 2 ^ 64 → x.hi < y.hi + from_bool k → None ≡ checked_less (val x) (val y)
+  unfolding val
+  difference_below q h = difference_outside _ _ (omega arith)
+
+  pub difference_within : (h : ℕ) → h + y.hi + from_bool k ≡ x.hi → l < 2 ^ 64 → Some (record { hi = h; lo = l }) ≡ checked_less (val x) (val y)
+  unfolding val
+  difference_within h f q = difference_number _ _ _ q (omega arith)
+
+  -- with what passes the upper half
+  pub difference_wraps : (h : ℕ) (t : Bool) → h + y.hi + from_bool k ≡ x.hi + from_bool t * 2 ^ 64 → h < 2 ^ 64 → l < 2 ^ 64 → y.hi < 2 ^ 64 → y.lo < 2 ^ 64
+      → record { hi = h; lo = l } ≡ halves ((val x + (limit - val y)) % limit)
+  difference_wraps h t f p q g i =
+      let z : Uint128 = record { hi = h; lo = l } in
+      let w : Whole z = whole_of z p q in
+      let s = sum_carried z y x (from_bool k) (from_bool t) (sym f) (omega arith) in
+      w.whole ∙ ap halves (less_wraps (val x) (val y) limit (val z) (from_bool t) (bit t) (whole_of y g i).fits w.fits s)
 
 -- what they are where nothing wraps
 pub wrapped_sum : {r : Uint128} (m n : ℕ) → r ≡ halves ((m + n) % limit) → m + n < limit → r ≡ halves (m + n)

@@ -2,10 +2,10 @@
 use Rattle.std.proofs.Common.{◌≡◌, ℕ, zero, suc, ◌-◌, ◌*◌, ◌/◌, ◌%◌, ◌^◌, ◌<◌, ◌≤◌, Bool, true, false, eqb, ◌⊎◌, sym, refl, ◌∙◌, inl, inr, mul_assoc, pow-suc, mul_right_comm, arith, eq-eqb, ne_eqb, eqb-true}
 use borrow.Author.Tests.{eqb-false}
 use Rattle.amount.specs.Numbers.{val, halves}
-use Rattle.amount.specs.Helpers.{tenths}
+use Rattle.amount.specs.Helpers.{division_of}
 use Rattle.amount.specs.declared.uint128.Uint128.{Uint128}
-use Rattle.amount.specs.declared.uint128.Divided.{Divided}
-use Rattle.amount.proofs.Halves.{Whole, whole_halves, val_of, val_halves, tenths_quotient, tenths_digit}
+use Rattle.amount.specs.declared.uint128.Division.{Division}
+use Rattle.amount.proofs.Halves.{Whole, whole_halves, val_of, val_halves, division_quotient, division_rest}
 use Rattle.amount.specs.Canonical.{strip}
 use Rattle.amount.specs.Texts.{Same}
 use Rattle.amount.specs.declared.Amount.{Amount}
@@ -42,18 +42,18 @@ module _ {first : Amount} {m : Uint128} {s : ℕ} (h : Strips first m s) where
       let e : s ≡ 0 = omega arith in
       rw (h.same, e, ← h.whole.whole)
 
-  module _ (l : 0 < s) (d : Divided) (e : d ≡ tenths (val m)) where
-    digit_is : d.digit ≡ val m % 10
-    digit_is = rw (e, tenths_digit (val m))
+  module _ (l : 0 < s) (d : Division Uint128) (e : d ≡ division_of (val m) 10) where
+    rest_is : d.rest ≡ val m % 10
+    rest_is = rw (e, division_rest (val m) 10)
 
-    pub strips_stop : (d.digit ≡ 0 → ⊥) → record { mantissa = m; scale = s } ≡ first
-    strips_stop z = rw (h.same, strip_stop s (val m) l (λ w. z (digit_is ∙ w)), ← h.whole.whole)
+    pub strips_stop : (d.rest ≡ 0 → ⊥) → record { mantissa = m; scale = s } ≡ first
+    strips_stop z = rw (h.same, strip_stop s (val m) l (λ w. z (rest_is ∙ w)), ← h.whole.whole)
 
-    pub strips_more : d.digit ≡ 0 → Strips first d.quotient (s - 1)
+    pub strips_more : d.rest ≡ 0 → Strips first d.quotient (s - 1)
     strips_more z =
-        let q : d.quotient ≡ halves (val m / 10) = rw (e, tenths_quotient (val m)) in
+        let q : d.quotient ≡ halves (val m / 10) = rw (e, division_quotient (val m) 10) in
         record {
-          same = h.same ∙ strip_more s (val m) l (sym digit_is ∙ z) ∙ rw (val_of q);
+          same = h.same ∙ strip_more s (val m) l (sym rest_is ∙ z) ∙ rw (val_of q);
           whole = whole_halves (omega (arith, h.whole.fits)) q;
         }
 

@@ -1,28 +1,28 @@
 -- The theorems on amounts that docs/PROOFS.md names. An amount is one of document 01: its mantissa is below 2^128.
-use Rattle.std.proofs.Common.{◌≡◌, ℕ, suc, ◌+◌, ◌-◌, ◌*◌, ◌%◌, ◌^◌, ◌<◌, ◌≤◌, true, ◌&&◌, ltb, leb, ◌⊎◌, sym, refl, ap, ◌∙◌, ⊎_elim, mul_assoc, mul_comm, add-mul, le_antisymm, pow-suc, sub-add_cancel, mul_right_comm, arith, pow-add, leb-true}
+use Rattle.std.proofs.Common.{◌≡◌, ℕ, suc, ◌+◌, ◌-◌, ◌*◌, ◌%◌, ◌^◌, ◌<◌, ◌≤◌, true, ◌&&◌, Result, Ok, Err, ltb, leb, ◌⊎◌, sym, refl, ap, ◌∙◌, ⊎_elim, mul_assoc, mul_comm, add-mul, le_antisymm, pow-suc, sub-add_cancel, mul_right_comm, arith, pow-add, leb-true}
 use native.Mathlib.Nat.{eq_of_mul-eq-mul_right, mul-mod_left, le-max_left, le-max_right}
+use Rattle.std.proofs.lemmas.Bool.{cases_lt, and_parts}
 use Rattle.amount.specs.Numbers.{val, limit, halves}
 use Rattle.amount.specs.Canonical.{strip, lowest, whole_text, decimal_text, canonical_text}
 use Rattle.amount.specs.Texts.{digits_in, places_in, Same, SameValue, InRange, Canonical}
 use Rattle.amount.specs.Amounts.{read_of, compare_of, common_scale, mantissa_at, sum_of, difference_of, given_of}
 use Rattle.amount.specs.declared.Amount.{Amount}
-use Rattle.amount.specs.declared.AmountResult.{AmountResult}
-use Rattle.amount.specs.declared.AmountResult.TheVariants.{Ok, NotWhole, Overflow, Underflow}
-use Rattle.amount.specs.declared.uint128.Ordering.TheVariants.{Greater}
+use Rattle.amount.specs.declared.AmountError.{AmountError}
+use Rattle.amount.specs.declared.AmountError.TheVariants.{NotWhole, Overflow, Underflow}
+use Rattle.std.specs.declared.cmp.Ordering.TheVariants.{Greater}
 use Rattle.amount.proofs.Scaling.{ten_pos, ten_join}
-use Rattle.amount.proofs.Widths.{below_or_not}
 use Rattle.amount.proofs.Cutting.{cut, cut_digits, cut_places, canonical, whole_number, whole_length, whole_digits, width_some}
 use Rattle.amount.proofs.Assembling.{width_few}
-use Rattle.amount.proofs.Reading.{read_given, if_is, and_right}
+use Rattle.amount.proofs.Reading.{read_given, if_is}
 use Rattle.amount.proofs.Halves.{val_halves, OrderFact, order_fact, order_is}
 use Rattle.amount.proofs.Stripping.{stripped_lowest}
 
 -- The number of an amount called alone is 0 exactly where one is given, and then that is the amount.
-pub zero_is_given : (r : AmountResult) → (given_of r).number ≡ 0 → r ≡ Ok (given_of r).amount
+pub zero_is_given : (r : Result Amount AmountError) → (given_of r).number ≡ 0 → r ≡ Ok (given_of r).amount
 zero_is_given (Ok a) h = refl
-zero_is_given NotWhole h = absurd (omega arith)
-zero_is_given Overflow h = absurd (omega arith)
-zero_is_given Underflow h = absurd (omega arith)
+zero_is_given (Err NotWhole) h = absurd (omega arith)
+zero_is_given (Err Overflow) h = absurd (omega arith)
+zero_is_given (Err Underflow) h = absurd (omega arith)
 
 pub given_is_zero : (a : Amount) → (given_of (Ok a)).number ≡ 0
 given_is_zero a = refl
@@ -50,7 +50,7 @@ finer_ends_in_zero x p y q e l =
 
 no_finer : (x p y q : ℕ) → Same x p y q → (q ≡ 0) ⊎ (y % 10 ≡ 0 → ⊥) → q ≤ p
 no_finer x p y q e z =
-    ⊎_elim (λ l. ⊎_elim (λ n. omega arith) (λ n. absurd (n (finer_ends_in_zero x p y q e l))) z) (λ l. l) (below_or_not p q)
+    ⊎_elim (λ l. ⊎_elim (λ n. omega arith) (λ n. absurd (n (finer_ends_in_zero x p y q e l))) z) (λ l. l) (cases_lt p q)
 
 lowest_alike : (a b : Amount) → SameValue a b → (a.scale ≡ 0) ⊎ (val a.mantissa % 10 ≡ 0 → ⊥) → (b.scale ≡ 0) ⊎ (val b.mantissa % 10 ≡ 0 → ⊥) → decimal_text (val a.mantissa) a.scale ≡ decimal_text (val b.mantissa) b.scale
 lowest_alike a b e y z =
@@ -103,7 +103,7 @@ pub sum_no_less : (a b c : Amount) → sum_of a b ≡ Ok c → compare_of a c �
 unfolding sum_of mantissa_at compare_of
 sum_no_less a b c e g =
     let k : ℕ = common_scale a b in
-    let f = if_is Overflow true (mantissa_at a k + mantissa_at b k) k c (λ h. let z : ◌≡◌ {A = ℕ} 0 1 = cc in omega arith) (sym e) in
+    let f = if_is Overflow true (mantissa_at a k + mantissa_at b k) k c (sym e) in
     no_less (val a.mantissa) (mantissa_at b k) a.scale k (le-max_left a.scale b.scale)
     (order_is _ _ (sym (rw (f.2, val_halves (mantissa_at a k + mantissa_at b k)) at g)))
 
@@ -134,7 +134,7 @@ module _ (a b : Amount) where
         → val c.mantissa * (10 ^ a.scale * 10 ^ b.scale) ≡ val a.mantissa * 10 ^ b.scale * 10 ^ c.scale + val b.mantissa * 10 ^ a.scale * 10 ^ c.scale
     unfolding sum_of
     sum_is_exact e =
-        let f = if_is Overflow true (mantissa_at a larger + mantissa_at b larger) larger c (λ h. let z : ◌≡◌ {A = ℕ} 0 1 = cc in omega arith) (sym e) in
+        let f = if_is Overflow true (mantissa_at a larger + mantissa_at b larger) larger c (sym e) in
         rw (f.2, val_halves (mantissa_at a larger + mantissa_at b larger)) (omega (arith, add-mul (mantissa_at a larger) (mantissa_at b larger) scales, first_part, second_part))
 
     pub difference_is_exact : difference_of a b ≡ Ok c
@@ -143,6 +143,6 @@ module _ (a b : Amount) where
     difference_is_exact e =
         let p : ℕ = mantissa_at a larger in
         let q : ℕ = mantissa_at b larger in
-        let f = if_is Underflow (ltb p limit && leb q p) (p - q) larger c (λ h. let z : ◌≡◌ {A = ℕ} 0 1 = cc in omega arith) (sym e) in
-        let l : q ≤ p = leb-true q p (and_right (ltb p limit) (leb q p) f.0) in
+        let f = if_is Underflow (ltb p limit && leb q p) (p - q) larger c (sym e) in
+        let l : q ≤ p = leb-true q p (and_parts (ltb p limit) (leb q p) f.0).1 in
         rw (f.2, val_halves (p - q)) (omega (arith, add-mul (p - q) q scales, ap (λ (z : ℕ). z * scales) (sub-add_cancel l), first_part, second_part))

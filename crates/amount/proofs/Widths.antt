@@ -1,17 +1,11 @@
 -- Laws of the width of a number: how many digits it has.
-use Rattle.std.proofs.Common.{◌≡◌, ℕ, zero, suc, ◌+◌, ◌-◌, ◌/◌, ◌^◌, ◌<◌, ◌≤◌, Bool, true, false, ltb, ◌⊎◌, refl, subst, inl, inr, ⊎_elim, lt_trans, lt_of_lt_of_le, lt_of_le_of_lt, div-lt_iff_lt-mul, pow-suc, le-div_iff_mul-le, div-le_self, not-le_of_lt, arith, lit<, pow-add, ltb-false, ltb-true, le-ltb, lt-ltb}
+use Rattle.std.proofs.Common.{◌≡◌, ℕ, zero, suc, ◌+◌, ◌-◌, ◌/◌, ◌^◌, ◌<◌, ◌≤◌, refl, subst, ⊎_elim, lt_trans, lt_of_lt_of_le, lt_of_le_of_lt, div-lt_iff_lt-mul, pow-suc, le-div_iff_mul-le, div-le_self, not-le_of_lt, arith, lit<, pow-add, le-ltb, lt-ltb}
 use Prim.{absurd}
+use Rattle.std.proofs.lemmas.Bool.{cases_lt}
 use native.Mathlib.Nat.{pow-le-pow_right}
 use Rattle.amount.specs.Numbers.{limit}
 use Rattle.amount.specs.Canonical.{width_up_to, width_of}
 use Rattle.amount.proofs.Scaling.{ten_pos, ten_more}
-
-split : (t : Bool) (a b : ℕ) → ltb a b ≡ t → (a < b) ⊎ (b ≤ a)
-split true a b e = inl (ltb-true a b e)
-split false a b e = inr (ltb-false a b e)
-
-pub below_or_not : (a b : ℕ) → (a < b) ⊎ (b ≤ a)
-below_or_not a b = split (ltb a b) a b refl
 
 -- one digit, or one more than the tenth has
 pub width_stop : (k n : ℕ) → n < 10 → width_up_to k n ≡ 1
@@ -30,7 +24,7 @@ width_bounds zero n = (omega arith, omega arith)
 width_bounds (suc k) n =
     ⊎_elim (λ h. (omega (arith, width_stop (suc k) n h), omega (arith, width_stop (suc k) n h)))
     (λ h. let w = width_bounds k (n / 10) in (omega (arith, width_next k n h), omega (arith, width_next k n h)))
-    (below_or_not n 10)
+    (cases_lt n 10)
 
 -- n has as many digits as its width, and no fewer
 lower_next : (k n : ℕ) → 10 ≤ n → 10 ^ (width_up_to k (n / 10) - 1) ≤ n / 10 → 10 ^ (width_up_to (suc k) n - 1) ≤ n
@@ -43,7 +37,7 @@ unfolding width_up_to
 width_lower zero n h = h
 width_lower (suc k) n h =
     ⊎_elim (λ l. rw (width_stop (suc k) n l) h) (λ l. lower_next k n l (width_lower k (n / 10) (omega arith)))
-    (below_or_not n 10)
+    (cases_lt n 10)
 
 upper_next : (k n : ℕ) → 10 ≤ n → n / 10 < 10 ^ width_up_to k (n / 10) → n < 10 ^ width_up_to (suc k) n
 upper_next k n l i = rw (width_next k n l, pow-suc 10 (width_up_to k (n / 10))) (omega (arith, i))
@@ -54,7 +48,7 @@ width_upper zero n h = h
 width_upper (suc k) n h =
     let i : n / 10 < 10 ^ suc k = omega (arith, pow-suc 10 (suc k)) in
     ⊎_elim (λ l. rw (width_stop (suc k) n l) l) (λ l. upper_next k n l (width_upper k (n / 10) i))
-    (below_or_not n 10)
+    (cases_lt n 10)
 
 -- a number below 2^128 has at most 39 digits
 pub small : (n : ℕ) → n < limit → n < 10 ^ 39
@@ -65,7 +59,7 @@ only_width : (n v w : ℕ) → 10 ^ v ≤ n → n < 10 ^ suc w → v ≤ w
 only_width n v w l u =
     ⊎_elim (λ h. omega arith)
     (λ h. absurd (not-le_of_lt (lt_of_lt_of_le u (pow-le-pow_right {n = 10} (omega arith) h)) l))
-    (below_or_not v (suc w))
+    (cases_lt v (suc w))
 
 -- n / 10^j has j digits less
 pub width_shift : (j n : ℕ) → n < limit → 10 ^ j ≤ n → width_of n ≡ width_of (n / 10 ^ j) + j

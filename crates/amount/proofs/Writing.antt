@@ -5,6 +5,7 @@ use lib.Arith.{mod-mul, digits_div}
 use Rattle.amount.specs.Canonical.{last_digits, zeros}
 use Rattle.amount.specs.Helpers.{division_of}
 use Rattle.amount.specs.declared.uint128.Division.{Division}
+use Rattle.amount.specs.declared.uint128.Uint128.{Uint128}
 use Rattle.amount.proofs.Halves.{division_rest}
 use Rattle.amount.proofs.Scaling.{ten_pos, ten_more}
 
@@ -77,5 +78,5 @@ pub writing_all : {first : List ℕ} {at n : ℕ} {b : List ℕ} {q k : ℕ} (co
 writing_all count e h rest f = rw (← e) (h.bytes rest f)
 
 -- what a division by 10^9 leaves has the last nine digits
-pub rest_digits : (k q : ℕ) {x : Division} → x ≡ division_of q (10 ^ 9) → k ≤ 9 → last_digits k x.rest ≡ last_digits k q
+pub rest_digits : (k q : ℕ) {x : Division Uint128} → x ≡ division_of q (10 ^ 9) → k ≤ 9 → last_digits k x.rest ≡ last_digits k q
 rest_digits k q e h = rw (e, division_rest q (10 ^ 9)) (digits_tail k 9 q h)

@@ -1,21 +1,21 @@
 -- Reading, order, sum and difference: document 01's section "Amount".
 -- An amount's value is mantissa / 10^scale, so a ≤ b is a's mantissa · 10^(b's scale) ≤ b's mantissa · 10^(a's scale).
-use Rattle.std.specs.Prelude.{ℕ, ◌+◌, ◌-◌, ◌*◌, ◌^◌, max, Bool, true, cond, ◌&&◌, List, length, nat_le, nat_lt}
+use Rattle.std.specs.Prelude.{ℕ, ◌+◌, ◌-◌, ◌*◌, ◌^◌, max, Bool, true, cond, ◌&&◌, List, length, nat_le, nat_lt, Result, Ok, Err}
 use Rattle.amount.specs.Numbers.{val, limit, halves, order_of}
 use Rattle.amount.specs.Decimal.{all_digits, decimal}
-use Rattle.amount.specs.declared.uint128.Ordering.{Ordering}
-use Rattle.amount.specs.declared.uint128.Ordering.TheVariants.{Less, Equal, Greater}
+use Rattle.std.specs.declared.cmp.Ordering.{Ordering}
+use Rattle.std.specs.declared.cmp.Ordering.TheVariants.{Less, Equal, Greater}
 use Rattle.amount.specs.declared.Amount.{Amount}
 use Rattle.amount.specs.declared.Given.{Given}
-use Rattle.amount.specs.declared.AmountResult.{AmountResult}
-use Rattle.amount.specs.declared.AmountResult.TheVariants.{Ok, NotWhole, Overflow, Underflow}
+use Rattle.amount.specs.declared.AmountError.{AmountError}
+use Rattle.amount.specs.declared.AmountError.TheVariants.{NotWhole, Overflow, Underflow}
 
 -- the amount of mantissa m at a scale, where a condition holds and 128 bits hold m; else the refusal
-unfoldable pub amount_if : AmountResult → Bool → ℕ → ℕ → AmountResult
-amount_if refusal t m scale = cond (t && nat_lt m limit) (Ok (record { mantissa = halves m; scale = scale })) refusal
+unfoldable pub amount_if : AmountError → Bool → ℕ → ℕ → Result Amount AmountError
+amount_if refusal t m scale = cond (t && nat_lt m limit) (Ok (record { mantissa = halves m; scale = scale })) (Err refusal)
 
 -- reading: 1 to 39 bytes, all digits, value at most 2^128 - 1, scale 0
-unfoldable pub read_of : List ℕ → AmountResult
+unfoldable pub read_of : List ℕ → Result Amount AmountError
 read_of s = amount_if NotWhole (nat_le 1 (length s) && nat_le (length s) 39 && all_digits s) (decimal s) 0
 
 -- order by exact value, at every pair of scales
@@ -40,11 +40,11 @@ unfoldable pub mantissa_at : Amount → ℕ → ℕ
 mantissa_at a scale = val a.mantissa * 10 ^ (scale - a.scale)
 
 -- fails if rescaling or the sum leaves 128 bits; a rescaled mantissa that does is a part of the sum
-unfoldable pub sum_of : Amount → Amount → AmountResult
+unfoldable pub sum_of : Amount → Amount → Result Amount AmountError
 sum_of a b = amount_if Overflow true (mantissa_at a (common_scale a b) + mantissa_at b (common_scale a b)) (common_scale a b)
 
 -- fails if rescaling leaves 128 bits or the difference is negative; what is taken is not above what it is taken from
-unfoldable pub difference_of : Amount → Amount → AmountResult
+unfoldable pub difference_of : Amount → Amount → Result Amount AmountError
 difference_of a b =
     amount_if Underflow
     (nat_lt (mantissa_at a (common_scale a b)) limit && nat_le (mantissa_at b (common_scale a b)) (mantissa_at a (common_scale a b)))
@@ -55,8 +55,8 @@ difference_of a b =
 abbrev pub refused_of : ℕ → Given
 refused_of number = record { number = number; detail = 0; amount = record { mantissa = record { hi = 0; lo = 0 }; scale = 0 } }
 
-abbrev pub given_of : AmountResult → Given
+abbrev pub given_of : Result Amount AmountError → Given
 given_of (Ok a) = record { number = 0; detail = 0; amount = a }
-given_of NotWhole = refused_of 10
-given_of Overflow = refused_of 17
-given_of Underflow = refused_of 18
+given_of (Err NotWhole) = refused_of 10
+given_of (Err Overflow) = refused_of 17
+given_of (Err Underflow) = refused_of 18

@@ -5,3 +5,4 @@ pub mod Amounts
 pub mod Canonical
 pub mod Texts
 pub mod Helpers
+pub mod Order

@@ -1,8 +1,8 @@
 -- 128-bit numbers: the number that two 64-bit halves stand for, and the order of numbers.
 use Rattle.std.specs.Prelude.{ℕ, ◌+◌, ◌*◌, ◌/◌, ◌%◌, ◌^◌, cond, ◌==◌, nat_lt}
 use Rattle.amount.specs.declared.uint128.Uint128.{Uint128}
-use Rattle.amount.specs.declared.uint128.Ordering.{Ordering}
-use Rattle.amount.specs.declared.uint128.Ordering.TheVariants.{Less, Equal, Greater}
+use Rattle.std.specs.declared.cmp.Ordering.{Ordering}
+use Rattle.std.specs.declared.cmp.Ordering.TheVariants.{Less, Equal, Greater}
 
 -- the number
 unfoldable pub val : Uint128 → ℕ

@@ -1,10 +1,11 @@
 // The canonical decimal text of an amount.
-ghost use Rattle.std.specs.Prelude.{◌≡◌, ℕ, ◌-◌, ◌/◌, ◌^◌, ◌≤◌, List, ◌++◌, length};
+ghost use Rattle.std.specs.Prelude.{◌≡◌, ℕ, ◌-◌, ◌/◌, ◌^◌, ◌≤◌, List, ◌++◌, length, take, Some};
 ghost use Rattle.amount.specs.Numbers.{val};
 ghost use Rattle.amount.specs.Canonical.{strip, width_of, last_digits, zeros, as_text, canonical_text};
 
 use super::Amount;
 use super::uint128::{Uint128, div_rem, power_of_ten};
+use std::fmt;
 
 // The longest text: a digit, a point and 255 digits behind it.
 pub const TEXT_BYTES: usize = 257;
@@ -15,6 +16,15 @@ pub const TEXT_BYTES: usize = 257;
 pub struct Text {
     pub bytes: [u8; TEXT_BYTES],
     pub len: u16,
+}
+
+impl Text {
+    // The text itself, whatever `len` says.
+    pub fn as_bytes(&self) -> &[u8]
+        ensures { result.now ≡ take self.now.len self.now.bytes }
+    {
+        &self.bytes[..(self.len as usize).min(TEXT_BYTES)]
+    }
 }
 
 impl Amount {
@@ -46,19 +56,31 @@ impl Amount {
     }
 }
 
-// A mantissa without its last `places` digits.
+// The canonical text, which is ASCII, so reading it as UTF-8 does not fail.
+impl fmt::Display for Amount {
+    ghost output = { λ a. Some (canonical_text a) };
+
+    fn fmt<W: fmt::Write>(&self, f: &mut fmt::Formatter<W>) -> fmt::Result {
+        let text = self.to_canonical_string();
+        let Ok(text) = str::from_utf8(text.as_bytes()) else {
+            return Err(fmt::Error);
+        };
+        f.write_str(text)
+    }
+}
+
+// A mantissa without its last `places` digits: `reduce` with one caller alone is inlined there.
 fn whole_part(mantissa: Uint128, places: u8) -> Uint128
     ensures { val result ≡ val mantissa / 10 ^ places }
 {
     let mut number = mantissa;
     let mut left = places;
+    // a `while`: how many times nine, less than all, takes a division more to say
     while 9 < left {
-        let d = div_rem(number, 1_000_000_000);
-        number = d.quotient;
+        number = div_rem(number, 1_000_000_000).quotient;
         left -= 9;
     }
-    let d = div_rem(number, power_of_ten(left) as u32);
-    d.quotient
+    div_rem(number, power_of_ten(left) as u32).quotient
 }
 
 // The same value with no trailing zero after the point.
@@ -70,9 +92,10 @@ fn stripped(a: Amount) -> Amount
         return Amount::ZERO;
     }
     let mut scale = a.scale;
+    // a `while`: the scale that it counts down is what it answers
     while 0 < scale {
-        let d = mantissa.divide_by_ten();
-        if d.digit != 0 {
+        let d = div_rem(mantissa, 10);
+        if d.rest != 0 {
             return Amount { mantissa, scale };
         }
         mantissa = d.quotient;
@@ -87,6 +110,7 @@ fn width(n: Uint128) -> usize
 {
     let mut rest = n;
     let mut count: usize = 0;
+    // a `while`: it counts digits, and the number says when it ends
     while 0 < rest.hi {
         let d = div_rem(rest, 1_000_000_000);
         rest = d.quotient;
@@ -101,6 +125,7 @@ fn word_width(n: u64) -> usize
 {
     let mut rest = n;
     let mut count: usize = 0;
+    // as in `width`
     while 1_000_000_000 <= rest {
         rest /= 1_000_000_000;
         count += 9;
@@ -119,6 +144,7 @@ fn put_digits(out: &mut [u8], at: usize, count: usize, n: Uint128)
 {
     let mut rest = n;
     let mut k: usize = 0;
+    // a `while`: the number says when it ends
     while 0 < rest.hi {
         let d = div_rem(rest, 1_000_000_000);
         if count - k <= 9 {
@@ -138,10 +164,9 @@ fn put_word(out: &mut [u8], at: usize, count: usize, n: u64)
     ensures { (rest : List ℕ) → out.old ≡ zeros at ++ rest → out.new ≡ zeros (at - count) ++ (last_digits count n ++ rest) }
 {
     let mut rest = n;
-    let mut k: usize = 0;
-    while k < count {
+    // by index: of what an `iter_mut().rev()` writes a proof knows nothing
+    for k in 0..count {
         out[at - k - 1] = b'0' + (rest % 10) as u8;
         rest /= 10;
-        k += 1;
     }
 }

@@ -1,117 +1,55 @@
 // Unsigned 128-bit numbers as two 64-bit halves: what `u128` is in the Rust.
 ghost use Rattle.std.specs.Prelude.{◌≡◌, ◌+◌, ◌-◌, ◌*◌, ◌%◌, ◌^◌, ◌<◌, ◌≤◌, ◌==◌};
-ghost use Rattle.amount.specs.Numbers.{val, limit, halves, order_of};
-ghost use Rattle.amount.specs.Helpers.{checked, checked_less, tenths, division_of};
+ghost use Rattle.amount.specs.Numbers.{val, limit, halves};
+ghost use Rattle.amount.specs.Helpers.{checked, checked_less, division_of};
 
-use std::num::{wrapping_add_u64, wrapping_sub_u64};
-
+// The order by the upper half, then by the lower one, is that of the numbers (proofs/Halves.antt, `halves_order`).
 #[repr(C)]
-#[derive(Clone, Copy)]
+#[derive(Clone, Copy, Debug, PartialEq, Eq, PartialOrd, Ord)]
 pub struct Uint128 {
     pub hi: u64,
     pub lo: u64,
 }
 
-// How one value stands to another.
-#[derive(Clone, Copy)]
-pub enum Ordering {
-    Less,
-    Equal,
-    Greater,
-}
-
-// A number, or none where it would lie outside 0 to 2^128 - 1.
-#[derive(Clone, Copy)]
-pub enum Checked {
-    Some(Uint128),
-    None,
-}
-
-// A quotient by ten, and the digit that is left.
-#[derive(Clone, Copy)]
-pub struct Divided {
-    pub quotient: Uint128,
-    pub digit: u8,
-}
-
 // A quotient, and what is left.
 #[derive(Clone, Copy)]
-pub struct Division {
-    pub quotient: Uint128,
-    pub rest: u32,
+pub(crate) struct Division<Q> {
+    pub(crate) quotient: Q,
+    pub(crate) rest: u32,
 }
 
 impl Uint128 {
     pub const ZERO: Uint128 = Uint128 { hi: 0, lo: 0 };
 
+    // The Rust's name for `== ZERO`.
     pub fn is_zero(self) -> bool
         ensures { result ≡ (val self == 0) }
     {
-        if self.hi == 0 { self.lo == 0 } else { false }
+        self.hi == 0 && self.lo == 0
     }
 
-    pub fn cmp(self, other: Uint128) -> Ordering
-        ensures { result ≡ order_of (val self) (val other) }
-    {
-        if self.hi < other.hi {
-            return Ordering::Less;
-        }
-        if other.hi < self.hi {
-            return Ordering::Greater;
-        }
-        if self.lo < other.lo {
-            return Ordering::Less;
-        }
-        if other.lo < self.lo {
-            return Ordering::Greater;
-        }
-        Ordering::Equal
-    }
-
-    pub fn checked_add(self, other: Uint128) -> Checked
+    pub fn checked_add(self, other: Uint128) -> Option<Uint128>
         ensures { result ≡ checked (val self + val other) }
     {
-        let room = u64::MAX - other.lo;
-        if self.lo <= room {
-            return joined(self.hi, other.hi, 0, self.lo + other.lo);
-        }
-        joined(self.hi, other.hi, 1, self.lo - room - 1)
+        let (lo, carry) = self.lo.carrying_add(other.lo, false);
+        let hi = self.hi.checked_add(other.hi)?.checked_add(carry as u64)?;
+        Some(Uint128 { hi, lo })
     }
 
-    pub fn checked_sub(self, other: Uint128) -> Checked
+    pub fn checked_sub(self, other: Uint128) -> Option<Uint128>
         ensures { result ≡ checked_less (val self) (val other) }
     {
-        if self.hi < other.hi {
-            return Checked::None;
-        }
-        let hi = self.hi - other.hi;
-        if other.lo <= self.lo {
-            return Checked::Some(Uint128 {
-                hi,
-                lo: self.lo - other.lo,
-            });
-        }
-        if hi == 0 {
-            return Checked::None;
-        }
-        Checked::Some(Uint128 {
-            hi: hi - 1,
-            lo: u64::MAX - other.lo + self.lo + 1,
-        })
+        let (lo, borrow) = self.lo.borrowing_sub(other.lo, false);
+        let hi = self.hi.checked_sub(other.hi)?.checked_sub(borrow as u64)?;
+        Some(Uint128 { hi, lo })
     }
 
     // The sum, as a u128 wraps it.
     pub fn wrapping_add(self, other: Uint128) -> Uint128
         ensures { result ≡ halves ((val self + val other) % limit) }
     {
-        let lo = wrapping_add_u64(self.lo, other.lo);
-        let hi = wrapping_add_u64(self.hi, other.hi);
-        if lo < other.lo {
-            return Uint128 {
-                hi: wrapping_add_u64(hi, 1),
-                lo,
-            };
-        }
+        let (lo, carry) = self.lo.carrying_add(other.lo, false);
+        let (hi, _) = self.hi.carrying_add(other.hi, carry);
         Uint128 { hi, lo }
     }
 
@@ -119,34 +57,9 @@ impl Uint128 {
     pub fn wrapping_sub(self, other: Uint128) -> Uint128
         ensures { result ≡ halves ((val self + (limit - val other)) % limit) }
     {
-        let lo = wrapping_sub_u64(self.lo, other.lo);
-        let hi = wrapping_sub_u64(self.hi, other.hi);
-        if self.lo < other.lo {
-            return Uint128 {
-                hi: wrapping_sub_u64(hi, 1),
-                lo,
-            };
-        }
+        let (lo, borrow) = self.lo.borrowing_sub(other.lo, false);
+        let (hi, _) = self.hi.borrowing_sub(other.hi, borrow);
         Uint128 { hi, lo }
-    }
-
-    // Ten times the number, and a digit.
-    pub(crate) fn times_ten_plus(self, digit: u8) -> Checked
-        ensures { result ≡ checked (val self * 10 + digit) }
-    {
-        mul_add(self, 10, digit as u32)
-    }
-
-    // The tenth of the number, and its last digit.
-    pub(crate) fn divide_by_ten(self) -> Divided
-        ensures { result ≡ tenths (val self) }
-    {
-        let d = div_rem(self, 10);
-        let quotient = d.quotient;
-        Divided {
-            quotient,
-            digit: d.rest as u8,
-        }
     }
 }
 
@@ -157,15 +70,8 @@ struct Wide {
     low: u64,
 }
 
-// A word divided, and what is left.
-#[derive(Clone, Copy)]
-struct Part {
-    quotient: u64,
-    rest: u64,
-}
-
 // A number divided by one of 32 bits: the upper half, then the lower one with what that leaves.
-pub(crate) fn div_rem(n: Uint128, divisor: u32) -> Division
+pub(crate) fn div_rem(n: Uint128, divisor: u32) -> Division<Uint128>
     requires { 0 < divisor }
     ensures { result ≡ division_of (val n) divisor }
 {
@@ -185,7 +91,7 @@ pub(crate) fn div_rem(n: Uint128, divisor: u32) -> Division
             hi: n.hi / d,
             lo: low.quotient,
         },
-        rest: low.rest as u32,
+        rest: low.rest,
     }
 }
 
@@ -219,32 +125,18 @@ pub(crate) fn power_of_ten(places: u8) -> u64
 }
 
 // A number times one of 32 bits, and another more: the lower half, then the upper one with what passes that.
-pub(crate) fn mul_add(n: Uint128, factor: u32, add: u32) -> Checked
+pub(crate) fn mul_add(n: Uint128, factor: u32, add: u32) -> Option<Uint128>
     ensures { result ≡ checked (val n * factor + add) }
 {
     let low = times_word(n.lo, factor, add);
     let high = times_word(n.hi, factor, low.carry);
     if 0 < high.carry {
-        return Checked::None;
+        return None;
     }
-    Checked::Some(Uint128 {
+    Some(Uint128 {
         hi: high.low,
         lo: low.low,
     })
-}
-
-// A number whose lower half is given, and whose upper half is a sum.
-fn joined(a: u64, b: u64, carry: u64, lo: u64) -> Checked
-    ensures { result ≡ checked ((a + b + carry) * 2 ^ 64 + lo) }
-{
-    if u64::MAX - a < b {
-        return Checked::None;
-    }
-    let hi = a + b;
-    if u64::MAX - carry < hi {
-        return Checked::None;
-    }
-    Checked::Some(Uint128 { hi: hi + carry, lo })
 }
 
 // A word times a factor, and a number more, by halves of the word, so that no product leaves 64 bits.
@@ -261,14 +153,14 @@ fn times_word(x: u64, factor: u32, add: u32) -> Wide
 }
 
 // A word with a number below the divisor before it, divided by halves of the word, so that nothing leaves 64 bits.
-fn divide_word(before: u64, x: u64, divisor: u64) -> Part
+fn divide_word(before: u64, x: u64, divisor: u64) -> Division<u64>
     requires { (before < divisor) × (divisor < 2 ^ 32) }
     ensures { (before * 2 ^ 64 + x ≡ result.quotient * divisor + result.rest) × (result.rest < divisor) × (result.quotient < 2 ^ 64) }
 {
     let high = before * 0x1_0000_0000 + x / 0x1_0000_0000;
     let low = (high % divisor) * 0x1_0000_0000 + x % 0x1_0000_0000;
-    Part {
+    Division {
         quotient: (high / divisor) * 0x1_0000_0000 + low / divisor,
-        rest: low % divisor,
+        rest: (low % divisor) as u32,
     }
 }

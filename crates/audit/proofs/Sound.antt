@@ -1,48 +1,49 @@
 -- Test 28 and the total as one answer: what each way out of the pass makes of it, and what it tells a caller.
 use Rattle.std.proofs.Common.{◌≡◌, ℕ, ◌+◌, ◌%◌, ◌<◌, Bool, true, false, cond, ◌&&◌, eqb, ltb, sym, refl, ap, ◌∙◌, mod-eq_of_lt, arith, eq-eqb}
 use mathlib.Core.Bool.{false≢true}
+use Rattle.std.specs.Prelude.{Option, Some, None}
+use Rattle.amount.specs.Helpers.{checked}
 use Rattle.amount.specs.Numbers.{limit, halves}
 use Rattle.amount.specs.declared.uint128.Uint128.{Uint128}
 use Rattle.book.specs.Sets.{has}
 use Rattle.book.specs.Book.{place_record, transfer_record, place_at, transfer_at, stock_of, carried_by, credits, balances, credits_under_way, total, name_ok, place_ok, scales_ok, transfer_ok, is_well_formed}
 use Rattle.book.specs.declared.Book.{Book}
 use Rattle.book.proofs.Formed.{Formed, formed}
-use Rattle.audit.specs.Totals.{unsound, total_of, total_in, sum_in, Added}
+use Rattle.audit.specs.Totals.{total_of, sum_in, Added}
 use Rattle.audit.specs.declared.totals.HalfSums.{HalfSums}
-use Rattle.audit.specs.declared.totals.Total.{Total}
 use Rattle.audit.proofs.Sums.{Wrapped, wrapped_none, Seen, seen_none, seen_more, seen_skip, place_in, place_out, transfer_in, transfer_out, ends_in}
 
 -- an answer by the verdict
-abbrev answer : Bool → ℕ → Total
-answer t n = record { sound = t; sum = halves (cond t n 0) }
+abbrev answer : Bool → ℕ → Option Uint128
+answer t n = cond t (Some (halves n)) None
 
 -- ---- a book that fails a part of test 28
 
 module _ (b : Book) where
-  fails : (Formed b → ⊥) → unsound ≡ total_of b
-  unfolding total_of halves
+  fails : (Formed b → ⊥) → None ≡ total_of b
+  unfolding total_of
   fails not· = go (is_well_formed b) refl
     where
-      go : (t : Bool) → is_well_formed b ≡ t → unsound ≡ answer t (total b)
+      go : (t : Bool) → is_well_formed b ≡ t → None ≡ answer t (total b)
       go true h = absurd (not· (formed b h))
       go false h = refl
 
-  pub unit_fails : name_ok b.unit ≡ false → unsound ≡ total_of b
+  pub unit_fails : name_ok b.unit ≡ false → None ≡ total_of b
   unit_fails h = fails (λ f. false≢true (sym h ∙ f.unit))
 
   module _ (p : ℕ) (low : p < 16) where
-    pub place_scale_fails : ((place_record b p).balance.scale ≡ 0 → ⊥) → unsound ≡ total_of b
+    pub place_scale_fails : ((place_record b p).balance.scale ≡ 0 → ⊥) → None ≡ total_of b
     place_scale_fails h = fails (λ f. h (f.whole_places p low).balance)
 
-    pub subject_fails : has b.opened p ≡ true → name_ok (place_record b p).subject ≡ false → unsound ≡ total_of b
+    pub subject_fails : has b.opened p ≡ true → name_ok (place_record b p).subject ≡ false → None ≡ total_of b
     subject_fails o h = fails (λ f. false≢true (sym h ∙ (rw (place_in b p o) at (f.places p low))))
 
   module _ (t : ℕ) (low : t < 8) where
-    pub transfer_scale_fails : ((transfer_record b t).amount.scale ≡ 0 → ⊥) → unsound ≡ total_of b
+    pub transfer_scale_fails : ((transfer_record b t).amount.scale ≡ 0 → ⊥) → None ≡ total_of b
     transfer_scale_fails h = fails (λ f. h (f.whole_transfers t low))
 
     pub ends_fail : has b.pending t ≡ true → has b.opened (transfer_record b t).from && has b.opened (transfer_record b t).to ≡ false
-        → unsound ≡ total_of b
+        → None ≡ total_of b
     ends_fail o h = fails (λ f. false≢true (sym h ∙ sym (ends_in b t o) ∙ f.transfers t low))
 
 -- ---- the pass over a book
@@ -82,25 +83,14 @@ unfolding balances
 no_transfers b s seen = seen_none _ _ _ (balances b) 16 s (omega (arith, seen.counted)) seen.above seen.carries
 
 -- every record passes: what is left of test 28 is that the total fits
-pub passed : (b : Book) (s r : HalfSums) → name_ok b.unit ≡ true → PlacesSeen b 16 s → TransfersSeen b 8 r → total_in (sum_in r) ≡ total_of b
-unfolding total_of total_in is_well_formed total credits_under_way
+pub passed : (b : Book) (s r : HalfSums) → name_ok b.unit ≡ true → PlacesSeen b 16 s → TransfersSeen b 8 r → checked (sum_in r) ≡ total_of b
+unfolding total_of checked is_well_formed total credits_under_way
 passed b s r u p t =
     rw (t.counted, u, p.second, p.first, t.first, t.second) (last (ltb (balances b + credits_under_way b) limit))
   where
     last : (x : Bool) → answer x (total b) ≡ answer (x && true && true && true && true && true) (total b)
     last true = refl
     last false = refl
-
--- ---- what the answer tells a caller
-
-module _ (b : Book) (r : Total) (e : r ≡ total_of b) where
-  pub total_sound : r.sound ≡ is_well_formed b
-  unfolding total_of
-  total_sound = ap (λ (x : Total). x.sound) e
-
-  pub total_sum : is_well_formed b ≡ true → r.sum ≡ halves (total b)
-  unfolding total_of
-  total_sum h = ap (λ (x : Total). x.sum) e ∙ rw h
 
 -- ---- the total alone
 

@@ -1,15 +1,18 @@
 -- Sums by halves, sums and tests over indices a turn of a loop at a time, and a book's tables by the code's test of their sets.
-use Rattle.std.proofs.Common.{◌≡◌, ℕ, suc, ◌+◌, ◌*◌, ◌/◌, ◌%◌, ◌^◌, ◌<◌, ◌≤◌, Bool, true, false, cond, ◌&&◌, sym, refl, ap, ◌∙◌, le_trans, le-add_right, mul-le-mul_right, mod-eq_of_lt, div-add-mod', arith, le-ltb, lt-ltb}
+use Rattle.std.proofs.Common.{◌≡◌, ℕ, suc, ◌+◌, ◌*◌, ◌/◌, ◌%◌, ◌^◌, ◌<◌, ◌≤◌, Bool, true, false, cond, ◌&&◌, sym, refl, ap, ◌∙◌, le_trans, le-add_right, mul-le-mul_right, div-add-mod', arith, le-ltb, lt-ltb}
 use mathlib.Core.Option.{some, none}
+use mir.Val.{bool_byte}
 use native.Mathlib.Nat.{mul-add-mod_self_right}
+use Rattle.std.specs.Prelude.{Some, None}
+use Rattle.amount.specs.Helpers.{checked}
 use Rattle.amount.specs.Numbers.{val, limit, halves}
 use Rattle.amount.specs.declared.uint128.Uint128.{Uint128}
-use Rattle.amount.proofs.Halves.{Whole, halves_of, whole_of, val_of}
+use Rattle.amount.proofs.Halves.{halves_of, whole_of, val_of}
 use Rattle.sheet.specs.Walk.{sum, every}
 use Rattle.book.specs.Sets.{has, entry}
 use Rattle.book.specs.Book.{credits, place_record, transfer_record, place_at, transfer_at, stock_of, carried_by, is_some, transfer_ok}
 use Rattle.book.specs.declared.Book.{Book}
-use Rattle.audit.specs.Totals.{unsound, total_in, sum_in, Added}
+use Rattle.audit.specs.Totals.{sum_in, Added}
 use Rattle.audit.specs.declared.totals.HalfSums.{HalfSums}
 
 -- ---- a sum by halves
@@ -38,8 +41,8 @@ unfolding limit
 upper_past u l h = le_trans (mul-le-mul_right (2 ^ 64) h) (le-add_right (u * 2 ^ 64) l)
 
 -- the answer for a sum that 128 bits do not hold, and for one that they hold
-pub past : (s : HalfSums) → 2 ^ 64 ≤ s.above * 2 ^ 64 + s.hi + s.carries → unsound ≡ total_in (sum_in s)
-unfolding sum_in total_in halves
+pub past : (s : HalfSums) → 2 ^ 64 ≤ s.above * 2 ^ 64 + s.hi + s.carries → None ≡ checked (sum_in s)
+unfolding sum_in checked
 past s h = rw (le-ltb (sum_in s) limit (upper_past _ s.lo h))
 
 held_is : (s : HalfSums) (x : Uint128) → s.above ≡ 0 → x.hi ≡ s.hi + s.carries → x.lo ≡ s.lo → val x ≡ sum_in s
@@ -47,12 +50,24 @@ unfolding val sum_in
 held_is s x z e f = rw (z, e, f) (omega arith)
 
 pub held : (s : HalfSums) (x : Uint128) → s.above ≡ 0 → x.hi ≡ s.hi + s.carries → x.lo ≡ s.lo → x.hi < 2 ^ 64 → x.lo < 2 ^ 64
-    → record { sound = true; sum = x } ≡ total_in (sum_in s)
-unfolding total_in
+    → Some x ≡ checked (sum_in s)
+unfolding checked
 held s x z e f g h =
     let is : val x ≡ sum_in s = held_is s x z e f in
     rw (lt-ltb (sum_in s) limit (rw is at (whole_of x g h).fits))
-    (ap (λ (y : Uint128). record { sound = true; sum = y }) (halves_of x (sum_in s) h is))
+    (ap Some (halves_of x (sum_in s) h is))
+
+-- a carry, as the code has it
+pub at_most_one : (b : Bool) → bool_byte b ≤ 1
+at_most_one true = omega arith
+at_most_one false = omega arith
+
+module _ (r s c : ℕ) {o : Bool} where
+  pub past_by : (a : ℕ) → o ≡ true → r + bool_byte o * 18446744073709551616 ≡ s + c + 0 → 2 ^ 64 ≤ a * 2 ^ 64 + s + c
+  past_by a e h = let k = rw e at h in omega (arith, k)
+
+  pub held_by : o ≡ false → r + bool_byte o * 18446744073709551616 ≡ s + c + 0 → r ≡ s + c
+  held_by e h = let k = rw e at h in omega (arith, k)
 
 -- ---- a turn of a loop
 
@@ -156,9 +171,6 @@ wrapped_again : (s n : ℕ) → (s % limit + n) % limit ≡ (s + n) % limit
 wrapped_again s n =
     sym (mul-add-mod_self_right (s / limit) limit (s % limit + n)) ∙ ap (λ (k : ℕ). k % limit) (omega (arith, div-add-mod' s limit))
 
-pub none_added : (r : Uint128) → Whole r → r ≡ halves ((val r + 0) % limit)
-none_added r w = w.whole ∙ ap halves (sym (ap (λ (k : ℕ). k % limit) (omega arith) ∙ mod-eq_of_lt w.fits))
-
 pub wrapped_none : (part : ℕ → ℕ) (m : ℕ) (r : Uint128) → r ≡ halves (m % limit) → Wrapped part m 0 r
 unfolding sum
 wrapped_none part m r e = record { sum = e ∙ ap (λ (k : ℕ). halves (k % limit)) (omega arith) }
@@ -171,6 +183,10 @@ wrapped_next {part} {m} {i} {r} w n t e h =
       sum = h ∙ ap (λ (k : ℕ). halves ((k + n) % limit)) (val_of w.sum) ∙ ap halves (wrapped_again s n)
           ∙ ap (λ (k : ℕ). halves (k % limit)) (omega (arith, e, sum_next part i));
     }
+
+-- a part that does not count
+pub wrapped_same : {part : ℕ → ℕ} {m i : ℕ} {r : Uint128} → Wrapped part m i r → (t : Uint128) → part i ≡ 0 → t ≡ r → Wrapped part m (i + 1) t
+wrapped_same {part} {m} {i} {r} w t e h = record { sum = h ∙ w.sum ∙ ap (λ (k : ℕ). halves (k % limit)) (omega (arith, e, sum_next part i)) }
 
 -- what a place and a transfer count
 module _ (b : Book) (p : ℕ) (t : Bool) where

@@ -1,24 +1,16 @@
 -- Test 28 and the total as one answer, and a sum by halves.
-use Rattle.std.specs.Prelude.{◌≡◌, ℕ, ◌+◌, ◌*◌, ◌^◌, ◌≤◌, false, cond, nat_lt}
-use Rattle.amount.specs.Numbers.{limit, halves}
+use Rattle.std.specs.Prelude.{◌≡◌, ℕ, ◌+◌, ◌*◌, ◌^◌, ◌≤◌, cond, Option, Some, None}
+use Rattle.amount.specs.Numbers.{halves}
+use Rattle.amount.specs.declared.uint128.Uint128.{Uint128}
 use Rattle.book.specs.Book.{is_well_formed, total}
 use Rattle.book.specs.declared.Book.{Book}
-use Rattle.audit.specs.declared.totals.Total.{Total}
 use Rattle.audit.specs.declared.totals.HalfSums.{HalfSums}
 
--- whether a book passes test 28, and its total; zero where it does not pass
-unfoldable pub total_of : Book → Total
-total_of b = record { sound = is_well_formed b; sum = halves (cond (is_well_formed b) (total b) 0) }
+-- the total of a book that passes test 28
+unfoldable pub total_of : Book → Option Uint128
+total_of b = cond (is_well_formed b) (Some (halves (total b))) None
 
 -- ---- for private helpers
-
--- the answer for a book that does not pass
-abbrev pub unsound : Total
-unsound = record { sound = false; sum = record { hi = 0; lo = 0 } }
-
--- whether 128 bits hold n, and n; zero where they do not
-unfoldable pub total_in : ℕ → Total
-total_in n = record { sound = nat_lt n limit; sum = halves (cond (nat_lt n limit) n 0) }
 
 -- the number that a sum by halves stands for
 unfoldable pub sum_in : HalfSums → ℕ

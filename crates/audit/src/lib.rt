@@ -4,5 +4,5 @@
 mod sets;
 mod totals;
 
-pub use sets::{both16, has8, has16};
-pub use totals::{Total, book_total, total_of};
+pub use sets::{both, has};
+pub use totals::{book_total, total_of};

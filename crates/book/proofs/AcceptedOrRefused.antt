@@ -26,8 +26,8 @@ use Rattle.book.specs.Steps.{Step, Open, Act, Begin, Finish, Cancel, credits_in,
 use Rattle.book.specs.declared.Name.{Name}
 use Rattle.book.specs.declared.Place.{Place}
 use Rattle.book.specs.declared.Book.{Book}
-use Rattle.book.specs.declared.error.BookOutcome.TheVariants.{Accepted}
 use Rattle.book.proofs.Worked.{unit, asking, account, left, second_left}
+use Rattle.std.specs.Prelude.{Ok}
 
 -- ---- sheets
 
@@ -223,8 +223,8 @@ Answers b rows = map (λ r. said_by_lem (book_answer_of (answer b r.step))) rows
 
 pub answered : Answers second_left opens × Answers second_left acting × Answers second_left beginning × Answers second_left finishing × Answers second_left cancelling
     × Answers full_book on_full × Answers (with_transfer 0 0 1 tenth) on_bad
-    × (answer second_left (Begin 0 1 0 (asking 51)) ≡ Accepted) × (answer second_left (Finish 2) ≡ Accepted)
-    × (answer second_left (Cancel 2) ≡ Accepted)
+    × (answer second_left (Begin 0 1 0 (asking 51)) ≡ Ok tt) × (answer second_left (Finish 2) ≡ Ok tt)
+    × (answer second_left (Cancel 2) ≡ Ok tt)
 unfolding val limit halves order_of all_digits digits_after decimal amount_if read_of compare_of zeros every sum prior entry_at entries_from lookup sound_as field encode text_in bytes_of marked parsed amount_by amount_of state_absent state_there above_zero held_by balance_rules bit entry name_bytes name_of blank_name blank_place blank_transfer place_record transfer_record place_at transfer_at balances credits_under_way total name_ok is_well_formed credits_in bytes_in adds acts doing tests_open tests_act tests_begin tests_finish seen answer
 answered = (refl, refl, refl, refl, refl, refl, refl, refl, refl, refl)
 

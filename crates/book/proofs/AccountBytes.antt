@@ -16,19 +16,16 @@ use Rattle.amount.specs.Amounts.{amount_if, read_of}
 use Rattle.amount.specs.Canonical.{zeros}
 use Rattle.amount.specs.declared.Amount.{Amount}
 use Rattle.sheet.specs.Walk.{every, sum, prior}
-use Rattle.sheet.specs.Sheet.{entry_at, entries_from, lookup, sound_as, verdict_of}
+use Rattle.sheet.specs.Sheet.{entry_at, entries_from, lookup, sound_as}
 use Rattle.sheet.specs.Fields.{Field, text, field, subject, unit, balance, amount, to_subject}
 use Rattle.sheet.specs.declared.Shape.TheVariants.{Input}
-use Rattle.sheet.specs.declared.Verdict.TheVariants as Verdict
 use Rattle.writer.specs.Encode.{encode, item, put_into, balance_sheet}
 use Rattle.writer.proofs.RoundTrip.{Sized}
 use Rattle.registry.specs.Readers.{bytes_of, marked, parsed, amount_by, amount_in}
 use Rattle.registry.specs.Call.{profile_of}
-use Rattle.registry.specs.declared.error.Reading.TheVariants.{Given}
-use Rattle.resource_state.specs.Next.{text_from, sheet_of}
+use Rattle.resource_state.specs.Next.{text_from, sheet_of, Next}
 use Rattle.resource_state.specs.Apply.{balance_next, next_of}
 use Rattle.resource_state.specs.declared.Part.{Part}
-use Rattle.resource_state.specs.declared.Next.{Next}
 use Rattle.transition.specs.Credit.{credit_of}
 use Rattle.transition.specs.Written.{buffer_after}
 use Rattle.book.specs.Places.{put_field}
@@ -37,7 +34,6 @@ use Rattle.book.specs.Steps.{Open, Act, Begin, Finish, Cancel, credits_in, bytes
 use Rattle.book.specs.declared.Place.{Place}
 use Rattle.book.specs.declared.Transfer.{Transfer}
 use Rattle.book.specs.declared.Book.{Book}
-use Rattle.book.specs.declared.error.BookOutcome.TheVariants.{Accepted}
 use Rattle.book.proofs.Worked.{asking, second_left}
 use Rattle.book.proofs.AcceptedOrRefused.{answered}
 use Rattle.book.proofs.Tables.{entry_drop}
@@ -50,6 +46,7 @@ use Rattle.book.proofs.Whole.{next_accepted}
 use Rattle.book.proofs.Applies.{Named, made, open_there, open_is_apply, act_is_apply, begin_is_apply, end_is_credit}
 use Rattle.book.proofs.Endings.{ending, end, Ended, ended}
 use Rattle.book.proofs.Accounts.{seen_next, no_sheet, closed_seen, sheet_at, account_fields, account_sound, account_seen, sheet_is_input, of_balances, SentTo, sent_is, same_bytes_lem}
+use Rattle.std.specs.Prelude.{Ok}
 
 -- ---- what is written, and the account afterwards
 
@@ -81,7 +78,7 @@ transfer_apart b t d r p = refl
 
 -- act and begin: apply of an operation that keeps the texts and makes n credits writes the account's sheet with n credits
 module _ (b : Book) (f : Formed b) (p : ℕ) (low : p < 16) (here : is_some (place_at b p) ≡ true) (sized : Sized (place_record b p).balance) (size : length b.places ≡ 16) where
-  applied : (o : ℕ) → profile_of o ≡ 2 → (i : List ℕ) → verdict_of Input i ≡ Verdict.Sound → (n : ℕ)
+  applied : (o : ℕ) → profile_of o ≡ 2 → (i : List ℕ) → sound_as Input i ≡ true → (n : ℕ)
       → balance_next amount_in ((seen b).place p) (field i) o ≡ made (Part.State subject) (Part.State unit) (whole_amount n)
       → (old : List ℕ) → buffer_after (next_of 2 o (sheet_at b p) i) (sheet_at b p) i old ≡ put_into (sheet_at (set_credits b p n) p) old
   unfolding bytes_of
@@ -94,7 +91,7 @@ module _ (b : Book) (f : Formed b) (p : ℕ) (low : p < 16) (here : is_some (pla
 
 -- Apply of create with no state sheet and the step's sheet writes the account's sheet after an accepted open.
 -- Premises: 16 places, as every book has that code holds; the step is accepted.
-pub open_writes_its_sheet : (b : Book) (i : List ℕ) (p : ℕ) → length b.places ≡ 16 → answer b (Open p i) ≡ Accepted
+pub open_writes_its_sheet : (b : Book) (i : List ℕ) (p : ℕ) → length b.places ≡ 16 → answer b (Open p i) ≡ Ok tt
     → (old : List ℕ) → buffer_after (next_of 2 11 [] i) [] i old ≡ put_into (sheet_at (next b (Open p i)) p) old
 unfolding seen open_place bytes_in
 open_writes_its_sheet b i p size h old =
@@ -108,7 +105,7 @@ open_writes_its_sheet b i p size h old =
 
 -- Apply of an act's operation writes for the account's sheet the account's sheet after an accepted act.
 -- Premises: 16 places and names of 32 bytes, as every book has that code holds; the balance is of two 64-bit halves; the step is accepted.
-pub act_writes_its_sheet : (b : Book) (i : List ℕ) (p o : ℕ) → length b.places ≡ 16 → Named b p → Sized (place_record b p).balance → answer b (Act p o i) ≡ Accepted
+pub act_writes_its_sheet : (b : Book) (i : List ℕ) (p o : ℕ) → length b.places ≡ 16 → Named b p → Sized (place_record b p).balance → answer b (Act p o i) ≡ Ok tt
     → (old : List ℕ) → buffer_after (next_of 2 o (sheet_at b p) i) (sheet_at b p) i old ≡ put_into (sheet_at (next b (Act p o i)) p) old
 act_writes_its_sheet b i p o size named sized h old =
     let f = formed b (accepted_tests b (Act p o i) h).0 in
@@ -118,8 +115,8 @@ act_writes_its_sheet b i p o size named sized h old =
 
 -- Apply of transfer, by the sheet `sent`, writes for the source's sheet the source's sheet after an accepted begin.
 -- Premises: those of act, of the source; `sent` is a sound input, the step's sheet with the destination's subject as to_subject.
-pub begin_writes_its_sheet : (b : Book) (i : List ℕ) (f g t : ℕ) → length b.places ≡ 16 → Named b f → Sized (place_record b f).balance → answer b (Begin f g t i) ≡ Accepted
-    → (sent : List ℕ) → SentTo b g i sent → verdict_of Input sent ≡ Verdict.Sound
+pub begin_writes_its_sheet : (b : Book) (i : List ℕ) (f g t : ℕ) → length b.places ≡ 16 → Named b f → Sized (place_record b f).balance → answer b (Begin f g t i) ≡ Ok tt
+    → (sent : List ℕ) → SentTo b g i sent → sound_as Input sent ≡ true
     → (old : List ℕ) → buffer_after (next_of 2 15 (sheet_at b f) sent) (sheet_at b f) sent old ≡ put_into (sheet_at (next b (Begin f g t i)) f) old
 begin_writes_its_sheet b i f g t size named sized h sent its-fields its-layout old =
     let w = formed b (accepted_tests b (Begin f g t i) h).0 in
@@ -133,9 +130,9 @@ begin_writes_its_sheet b i f g t size named sized h sent its-fields its-layout o
 -- two 64-bit halves; the step is accepted; `sent` is a sound input whose to_subject is that end's subject and whose amount is read as
 -- the transfer's.
 pub end_writes_its_sheet : (b : Book) (t : ℕ) (back : Bool) → length b.places ≡ 16 → b.opened < 2 ^ 16 → Named b (end b t back)
-    → ((k : Bool) → Sized (place_record b (end b t k)).balance) → answer b (ending t back) ≡ Accepted
-    → (sent : List ℕ) → verdict_of Input sent ≡ Verdict.Sound → field sent to_subject ≡ text (name_bytes (place_record b (end b t back)).subject)
-    → amount_in amount (field sent amount) ≡ Given (transfer_record b t).amount
+    → ((k : Bool) → Sized (place_record b (end b t k)).balance) → answer b (ending t back) ≡ Ok tt
+    → (sent : List ℕ) → sound_as Input sent ≡ true → field sent to_subject ≡ text (name_bytes (place_record b (end b t back)).subject)
+    → amount_in amount (field sent amount) ≡ Ok (transfer_record b t).amount
     → (old : List ℕ) → buffer_after (credit_of 15 (sheet_at b (end b t (not back))) (sheet_at b (end b t back)) sent) (sheet_at b (end b t (not back))) sent old
     ≡ put_into (sheet_at (next b (ending t back)) (end b t back)) old
 unfolding credit_of bytes_of
@@ -156,7 +153,7 @@ end_writes_its_sheet b t back size few named sized h sent its-layout its_subject
     (rw (its_subject, account_fields b d.form f low-f here_f (sized (not back)) unit, d.left, transfer_apart (set_credits b g n) t 0 blank_transfer g) (sym (credits_set b g n size low-g)))
 
 -- The record of a finished or cancelled transfer is zeros, and its number is free again. Premises: 8 transfers; the step is accepted.
-pub ended_is_zeros : (b : Book) (t : ℕ) (back : Bool) → length b.transfers ≡ 8 → answer b (ending t back) ≡ Accepted
+pub ended_is_zeros : (b : Book) (t : ℕ) (back : Bool) → length b.transfers ≡ 8 → answer b (ending t back) ≡ Ok tt
     → (transfer_record (next b (ending t back)) t ≡ blank_transfer) × (transfer_at (next b (ending t back)) t ≡ none)
 unfolding transfer_record transfer_at set_record set_transfer
 ended_is_zeros b t back size h =
@@ -197,13 +194,13 @@ unfolding transfer_record
 sized_ends true = sized.0
 sized_ends false = sized.1
 
-layouts : (verdict_of Input (to_second 51) ≡ Verdict.Sound) × (verdict_of Input (to_second 54) ≡ Verdict.Sound) × (verdict_of Input (sending 54 49) ≡ Verdict.Sound)
+layouts : (sound_as Input (to_second 51) ≡ true) × (sound_as Input (to_second 54) ≡ true) × (sound_as Input (sending 54 49) ≡ true)
 unfolding sound_as every sum prior entry_at encode
 layouts = (refl, refl, refl)
 
 -- 6 to the subject of a place
 Carries : ℕ → List ℕ → Type 0
-Carries p sent = (field sent to_subject ≡ text (name_bytes (place_record second_left p).subject)) × (amount_in amount (field sent amount) ≡ Given (whole_amount 6))
+Carries p sent = (field sent to_subject ≡ text (name_bytes (place_record second_left p).subject)) × (amount_in amount (field sent amount) ≡ Ok (whole_amount 6))
 
 carried : Carries 1 (to_second 54) × Carries 0 (sending 54 49)
 unfolding Carries field lookup entries_from entry_at encode place_record name_bytes name_of zeros limit all_digits digits_after decimal amount_if read_of marked parsed amount_by

@@ -8,14 +8,12 @@ use lib.ListN.{length}
 use Rattle.amount.specs.declared.Amount.{Amount}
 use Rattle.sheet.specs.Fields.{Field, text, field, Sight, subject, unit, balance, amount, to_subject}
 use Rattle.registry.specs.Readers.{bytes_of, amount_in}
-use Rattle.registry.specs.declared.error.Reading.TheVariants.{Given}
-use Rattle.resource_state.specs.Next.{text_from}
+use Rattle.resource_state.specs.Next.{text_from, Next}
 use Rattle.resource_state.specs.Apply.{balance_next}
 use Rattle.resource_state.specs.declared.FungibleBalanceState.{FungibleBalanceState}
 use Rattle.resource_state.specs.declared.Part.{Part}
 use Rattle.resource_state.specs.declared.Part.TheVariants.{State, Input}
 use Rattle.resource_state.specs.declared.ResourceState.TheVariants.{FungibleBalance}
-use Rattle.resource_state.specs.declared.Next.{Next}
 use Rattle.transition.specs.Credit.{credit_by}
 use Rattle.book.specs.Places.{place_view}
 use Rattle.book.specs.Book.{credits, whole_amount, name_bytes, no_place, place_record, transfer_record, place_at, is_some, open_place, set_record, set_credits, set_transfer}
@@ -23,7 +21,6 @@ use Rattle.book.specs.Steps.{Open, Act, Begin, credits_in, bytes_in, changed, he
 use Rattle.book.specs.declared.Place.{Place}
 use Rattle.book.specs.declared.Transfer.{Transfer}
 use Rattle.book.specs.declared.Book.{Book}
-use Rattle.book.specs.declared.error.BookOutcome.TheVariants.{Accepted}
 use Rattle.book.proofs.Tables.{entry_put, entry_set}
 use Rattle.book.proofs.Names.{name_bytes_lem}
 use Rattle.book.proofs.Facts.{accepted_tests, Opens, opens, Acts, acts_so, Begins, begins}
@@ -32,11 +29,12 @@ use Rattle.book.proofs.Whole.{next_accepted}
 use Rattle.book.proofs.Applies.{Named, made, open_there, view_is, open_is_apply, act_is_apply, begin_is_apply, end_is_credit}
 use Rattle.book.proofs.Endings.{ending, end, Ended, ended}
 use Rattle.book.proofs.Accounts.{same_bytes_lem}
+use Rattle.std.specs.Prelude.{Ok}
 
 -- n is a balance state, and v shows it: its texts are those of a state and of an input
 pub record SeenAs (n : Next) (st inp : ℕ → Field) (v : Sight) : Type 0 where
   pub state : FungibleBalanceState
-  pub made : n ≡ Next.State (FungibleBalance state)
+  pub made : n ≡ Ok (FungibleBalance state)
   pub shown : v ≡ place_view (text_from st inp state.subject) (text_from st inp state.unit) state.balance
 
 seen_as : (n : Next) (st inp : ℕ → Field) (v : Sight) (x y : Part) (a : Amount) → n ≡ made x y a → v ≡ place_view (text_from st inp x) (text_from st inp y) a → SeenAs n st inp v
@@ -70,7 +68,7 @@ module _ (b : Book) (p : ℕ) (here : is_some (place_at b p) ≡ true) (inp : �
 -- ---- the four steps
 
 -- An opened place is seen as what create makes of the sheet. Premises: 16 places; the step is accepted.
-pub open_seen : (b : Book) (p : ℕ) (i : List ℕ) → length b.places ≡ 16 → answer b (Open p i) ≡ Accepted
+pub open_seen : (b : Book) (p : ℕ) (i : List ℕ) → length b.places ≡ 16 → answer b (Open p i) ≡ Ok tt
     → SeenAs (balance_next amount_in ((seen b).place p) (field i) 11) ((seen b).place p).at (field i) ((seen (next b (Open p i))).place p)
 unfolding seen bytes_in
 open_seen b p i size h =
@@ -80,7 +78,7 @@ open_seen b p i size h =
     (rw (next_accepted b (Open p i) h) (opened_view b p _ size t.low ∙ rw (name_bytes_lem (bytes_in subject i), its_unit)))
 
 -- After an act the place is seen as what the operation makes of it. Premises: 16 places, names of 32 bytes; the step is accepted.
-pub act_seen : (b : Book) (p o : ℕ) (i : List ℕ) → length b.places ≡ 16 → Named b p → answer b (Act p o i) ≡ Accepted
+pub act_seen : (b : Book) (p o : ℕ) (i : List ℕ) → length b.places ≡ 16 → Named b p → answer b (Act p o i) ≡ Ok tt
     → SeenAs (balance_next amount_in ((seen b).place p) (field i) o) ((seen b).place p).at (field i) ((seen (next b (Act p o i))).place p)
 act_seen b p o i size named h =
     let t : Acts (seen b) p o i = acts_so (seen b) p o i (accepted_tests b (Act p o i) h).1 in
@@ -89,7 +87,7 @@ act_seen b p o i size named h =
     (rw (next_accepted b (Act p o i) h, subject_seen b p here (field i), unit_seen b p here (field i)) (set_view b p _ size t.low here))
 
 -- After a begin the source is seen as what transfer makes of it, with the destination's subject as to_subject. Premises: as of act-seen.
-pub begin_seen : (b : Book) (f g t : ℕ) (i : List ℕ) → length b.places ≡ 16 → Named b f → answer b (Begin f g t i) ≡ Accepted
+pub begin_seen : (b : Book) (f g t : ℕ) (i : List ℕ) → length b.places ≡ 16 → Named b f → answer b (Begin f g t i) ≡ Ok tt
     → SeenAs (balance_next amount_in ((seen b).place f) (sent_to (seen b) g i) 15) ((seen b).place f).at (sent_to (seen b) g i) ((seen (next b (Begin f g t i))).place f)
 begin_seen b f g t i size named h =
     let k : Begins (seen b) f g t i = begins (seen b) f g t i (accepted_tests b (Begin f g t i) h).1 in
@@ -99,8 +97,8 @@ begin_seen b f g t i size named h =
 
 -- After a finish or a cancel the end where the credits land is seen as what credit makes of both, by an input whose to_subject is that end's
 -- subject and whose amount is the transfer's. Premises: as of act-seen, of that end; `opened` of 16 bits.
-pub end_seen : (b : Book) (t : ℕ) (back : Bool) (inp : ℕ → Field) → length b.places ≡ 16 → b.opened < 2 ^ 16 → Named b (end b t back) → answer b (ending t back) ≡ Accepted
-    → inp to_subject ≡ text (name_bytes (place_record b (end b t back)).subject) → amount_in amount (inp amount) ≡ Given (transfer_record b t).amount
+pub end_seen : (b : Book) (t : ℕ) (back : Bool) (inp : ℕ → Field) → length b.places ≡ 16 → b.opened < 2 ^ 16 → Named b (end b t back) → answer b (ending t back) ≡ Ok tt
+    → inp to_subject ≡ text (name_bytes (place_record b (end b t back)).subject) → amount_in amount (inp amount) ≡ Ok (transfer_record b t).amount
     → SeenAs (credit_by amount_in ((seen b).place (end b t (not back))) ((seen b).place (end b t back)) inp 15) ((seen b).place (end b t (not back))).at inp
     ((seen (next b (ending t back))).place (end b t back))
 unfolding bytes_of

@@ -12,41 +12,38 @@ use lib.ListN.{length, take}
 use borrow.Author.Tests.{ne_eqb, eqb-true, leb-true}
 use Rattle.amount.specs.Numbers.{limit}
 use Rattle.amount.specs.declared.Amount.{Amount}
-use Rattle.sheet.specs.Sheet.{entries_from, lookup, state_of, verdict_of}
+use Rattle.sheet.specs.Sheet.{entries_from, lookup, state_of, sound_as}
 use Rattle.sheet.specs.Fields.{Field, text, figure, field, three, Sight, sight_of, subject, unit, balance, amount, to_subject}
 use Rattle.sheet.specs.declared.Shape.TheVariants.{Input}
 use Rattle.sheet.specs.declared.State.{State}
-use Rattle.sheet.specs.declared.Verdict.{Verdict}
 use Rattle.writer.specs.Encode.{balance_sheet}
 use Rattle.writer.proofs.RoundTrip.{Sized, Back, balance_back}
 use Rattle.registry.specs.Readers.{amount_in}
 use Rattle.registry.specs.Refusals as profile
 use Rattle.registry.specs.Call.{state_sound, input_sound, profile_of, operation_of, called}
-use Rattle.registry.specs.declared.error.Outcome.{Outcome}
-use Rattle.registry.specs.declared.error.Outcome.TheVariants as Check
+use Rattle.registry.specs.Refusals.{Outcome}
 use Rattle.profiles.specs.Balance.{balance_rules}
 use Rattle.profiles.specs.Check.{check_of}
 use Rattle.resource_state.specs.Apply.{balance_next, next_of}
 use Rattle.book.specs.Places.{place_field, place_view, closed_view, put_field}
 use Rattle.book.specs.Book.{name_bytes, place_record, place_at, transfer_at, total, is_some, is_well_formed, name_ok}
-use Rattle.book.specs.Refusals.{book_answer_of}
+use Rattle.book.specs.Refusals.{book_answer_of, BookOutcome}
 use Rattle.book.specs.Steps.{Open, Act, Begin, credits_in, bytes_in, adds, acts, same_bytes, said, sheet_sound, sent_to, seen, answer}
 use Rattle.book.specs.declared.Name.{Name}
 use Rattle.book.specs.declared.Book.{Book}
-use Rattle.book.specs.declared.error.BookOutcome.{BookOutcome}
-use Rattle.book.specs.declared.error.BookOutcome.TheVariants.{Accepted}
 use Rattle.book.proofs.Rows.{among_all}
 use Rattle.book.proofs.Formed.{Formed, formed, and_l, and_r}
 use Rattle.book.proofs.Views.{place_raw}
 use Rattle.book.proofs.Invariant.{is_none}
 use Rattle.book.proofs.Answers.{open_is_check, act_is_check, begin_is_check}
 use Rattle.book.proofs.Applies.{view_is}
+use Rattle.std.specs.Prelude.{Ok, Err}
 
 -- ---- a sheet that is no torn state and is seen as v: its check and its next state are the balance profile's rows at v
 
-module _ (sheet : List ℕ) (v : Sight) (shown : sight_of sheet ≡ v) (state : state_sound 1 (state_of sheet) ≡ Check.Accepted) where
-  module _ (i : List ℕ) (sound : verdict_of Input i ≡ Verdict.Sound) (o : ℕ) (of : profile_of o ≡ 2) where
-    calls : called 2 o sheet i ≡ Check.Accepted
+module _ (sheet : List ℕ) (v : Sight) (shown : sight_of sheet ≡ v) (state : state_sound 1 (state_of sheet) ≡ Ok tt) where
+  module _ (i : List ℕ) (sound : sound_as Input i ≡ true) (o : ℕ) (of : profile_of o ≡ 2) where
+    calls : called 2 o sheet i ≡ Ok tt
     unfolding called operation_of
     calls = rw (state, sound, of)
 
@@ -124,7 +121,7 @@ module _ (b : Book) (f : Formed b) (p : ℕ) (low : p < 16) (here : is_some (pla
   pub account_fields : (n : ℕ) → field (sheet_at b p) n ≡ place_field its_subject its_unit (place_record b p).balance n
   account_fields = fields its_subject its_unit (place_record b p).balance subject_short unit_short sized
 
-  pub account_sound : (which : ℕ) → state_sound which (state_of (sheet_at b p)) ≡ Check.Accepted
+  pub account_sound : (which : ℕ) → state_sound which (state_of (sheet_at b p)) ≡ Ok tt
   account_sound which = rw (back its_subject its_unit (place_record b p).balance subject_short unit_short sized).is
 
   pub account_seen : sight_of (sheet_at b p) ≡ (seen b).place p
@@ -133,19 +130,19 @@ module _ (b : Book) (f : Formed b) (p : ℕ) (low : p < 16) (here : is_some (pla
 -- ---- what a step answers
 
 said_number : (x : Outcome) → book_answer_of (said x) ≡ profile.answer_of x
-said_number Check.Accepted = refl
-said_number (Check.Refused e) = refl
+said_number (Ok _) = refl
+said_number (Err e) = refl
 
 -- a step that says what a list says, and a check that answers it too
 same_answer : (x : BookOutcome) (y z : Outcome) → x ≡ said y → z ≡ y → book_answer_of x ≡ profile.answer_of z
 same_answer x y z e k = ap book_answer_of e ∙ said_number y ∙ ap profile.answer_of (sym k)
 
-pub sheet_is_input : (i : List ℕ) → sheet_sound i ≡ Accepted → verdict_of Input i ≡ Verdict.Sound
-sheet_is_input i h = go (verdict_of Input i) refl h
+pub sheet_is_input : (i : List ℕ) → sheet_sound i ≡ Ok tt → sound_as Input i ≡ true
+sheet_is_input i h = go (sound_as Input i) refl h
   where
-    go : (v : Verdict) → verdict_of Input i ≡ v → said (input_sound v) ≡ Accepted → verdict_of Input i ≡ Verdict.Sound
-    go Verdict.Sound e k = e
-    go Verdict.Torn e k = let q : ◌≡◌ {A = ℕ} 0 1 = cc in absurd (omega arith)
+    go : (v : Bool) → sound_as Input i ≡ v → said (input_sound v) ≡ Ok tt → sound_as Input i ≡ true
+    go true e k = e
+    go false e k = let q : ◌≡◌ {A = ℕ} 0 1 = cc in absurd (omega arith)
 
 pub same_bytes_lem : (x y : List ℕ) → same_bytes x y ≡ true → x ≡ y
 same_bytes_lem [] [] h = refl
@@ -175,7 +172,7 @@ SentTo b g i sent = (n : ℕ) → field sent n ≡ put_field (field i) to_subjec
 pub sent_is : (b : Book) (g : ℕ) (i sent : List ℕ) → is_some (place_at b g) ≡ true → SentTo b g i sent → field sent ≡ sent_to (seen b) g i
 sent_is b g i sent here e = fun_ext e ∙ ap (λ (v : Sight). put_field (field i) to_subject (v.at subject)) (sym (view_is b g here))
 
-module _ (b : Book) (sound : is_well_formed b ≡ true) (i : List ℕ) (sheet : sheet_sound i ≡ Accepted) where
+module _ (b : Book) (sound : is_well_formed b ≡ true) (i : List ℕ) (sheet : sheet_sound i ≡ Ok tt) where
   -- An open that passes the book's own tests answers, number, detail and amounts, what check of create answers where there is no sheet.
   -- Premises: those of `open_is_check`, so a book that passes 28 and a sound sheet; 22, 5, 26, 27 and 25 are not met.
   pub open_is_its_sheet's_check : (p : ℕ) → p < 16 → is_some (place_at b p) ≡ false → same_bytes (name_bytes b.unit) (bytes_in unit i) ≡ true
@@ -202,7 +199,7 @@ module _ (b : Book) (sound : is_well_formed b ≡ true) (i : List ℕ) (sheet : 
   -- input, the step's sheet with the destination's subject as to_subject.
   pub begin_is_its_sheet's_check : (f g t : ℕ) → f < 16 → g < 16 → t < 8 → f ≢ g → is_some (transfer_at b t) ≡ false
       → is_some (place_at b f) ≡ true → is_some (place_at b g) ≡ true → Sized (place_record b f).balance
-      → (sent : List ℕ) → SentTo b g i sent → verdict_of Input sent ≡ Verdict.Sound
+      → (sent : List ℕ) → SentTo b g i sent → sound_as Input sent ≡ true
       → book_answer_of (answer b (Begin f g t i)) ≡ profile.answer_of (check_of 2 15 (sheet_at b f) sent)
   begin_is_its_sheet's_check f g t low low_to low-t apart free here here-to sized sent its-fields its-layout =
       let w = formed b sound in

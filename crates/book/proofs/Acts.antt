@@ -11,7 +11,6 @@ use Rattle.amount.specs.Numbers.{limit}
 use Rattle.amount.proofs.Halves.{val_halves}
 use Rattle.sheet.specs.Fields.{field, amount}
 use Rattle.registry.specs.Readers.{amount_in}
-use Rattle.registry.specs.declared.error.Outcome.TheVariants as Check
 use Rattle.profiles.specs.Balance.{balance_rules}
 use Rattle.book.specs.Book.{credits, whole_amount, name_bytes, place_record, place_at, stock_of, is_some}
 use Rattle.book.specs.Steps.{Act, credits_in, Doing, Issuing, Taking, doing, adds, changed, act_on, inflow, outflow, act_flow, said, Seen, after_check, seen, tests_act, first_refusal, held_at}
@@ -20,12 +19,12 @@ use Rattle.book.specs.Claim.{route, cell, shown}
 use Rattle.book.specs.declared.Place.{Place}
 use Rattle.book.specs.declared.Book.{Book}
 use Rattle.book.specs.declared.error.BookError.TheVariants.{TooMuch}
-use Rattle.book.specs.declared.error.BookOutcome.TheVariants.{Accepted}
 use Rattle.book.proofs.Rows.{rises, adds_is, Affords, act_affords}
 use Rattle.book.proofs.Formed.{Whole}
 use Rattle.book.proofs.Facts.{unmet, follow, same, Acts, acts_so}
 use Rattle.book.proofs.Views.{same_transfers, same_unit, coming}
 use Rattle.book.proofs.Invariant.{Inv, Kept, holding, credited, view_there, place_is, plain_is, whole_is, SetBoth, set_both, credits_whole}
+use Rattle.std.specs.Prelude.{Ok}
 
 -- ---- what an act makes of a place, by what its operation does
 
@@ -52,16 +51,16 @@ module _ (x : Place) (n o : ℕ) where
   act_whole w = credits_whole x (changed o (credits x.balance) n) w
 
 -- what 25 says: there is room for what it issues
-room : (k : Doing) (s : Seen) (p n : ℕ) → s.total < limit → after_check k s p n ≡ Accepted → s.total + inflow (act_flow k n) < limit
+room : (k : Doing) (s : Seen) (p n : ℕ) → s.total < limit → after_check k s p n ≡ Ok tt → s.total + inflow (act_flow k n) < limit
 room Issuing s p n h e = leb-false limit (s.total + n) (unmet (leb limit (s.total + n)) TooMuch e)
 room Taking s p n h e = omega arith
 
 -- the tests after the check go by the total
-after_same : (k : Doing) (s s' : Seen) (p n : ℕ) → s'.total ≡ s.total → after_check k s p n ≡ Accepted → after_check k s' p n ≡ Accepted
+after_same : (k : Doing) (s s' : Seen) (p n : ℕ) → s'.total ≡ s.total → after_check k s p n ≡ Ok tt → after_check k s' p n ≡ Ok tt
 after_same Issuing s s' p n e h = rw e h
 after_same Taking s s' p n e h = refl
 
-pub kept_act : (b : Book) (l : Plain) (p o : ℕ) (i : List ℕ) (d : ℕ → Bool) → Inv d b l → first_refusal (tests_act (seen b) p o i) ≡ Accepted
+pub kept_act : (b : Book) (l : Plain) (p o : ℕ) (i : List ℕ) (d : ℕ → Bool) → Inv d b l → first_refusal (tests_act (seen b) p o i) ≡ Ok tt
     → Kept d b l (Act p o i)
 unfolding seen plain_seen plain_answer credits_in tests_act
 kept_act b l p o i d v t =
@@ -105,7 +104,7 @@ kept_act b l p o i d v t =
     a : Affords x.balance (field i) (adds o) (λ w. balance_rules amount_in w (field i) o)
     a = act_affords s u x.balance (whole_is v p f.low here).balance (field i) o f.operation (rw (place_is v p f.low here) at f.check)
 
-    checks : balance_rules amount_in (plain_view u (l p)) (field i) o ≡ Check.Accepted
+    checks : balance_rules amount_in (plain_view u (l p)) (field i) o ≡ Ok tt
     checks = rw there (a.more s u (whole_amount held) refl (rw (val_halves held) (omega arith)))
 
     enough : Enough x n o k

@@ -12,21 +12,19 @@ use borrow.Author.Tests.{lt-leb, le-ltb, ne_eqb}
 use Rattle.amount.specs.Numbers.{limit}
 use Rattle.sheet.specs.Fields.{field, subject, unit, balance, amount}
 use Rattle.registry.specs.Readers.{amount_in}
-use Rattle.registry.specs.declared.error.Outcome.{Outcome}
-use Rattle.registry.specs.declared.error.Outcome.TheVariants as Check
+use Rattle.registry.specs.Refusals.{Outcome}
 use Rattle.registry.proofs.Words as profile
 use Rattle.profiles.specs.Balance.{balance_rules}
 use Rattle.book.specs.Sets.{with_bit, entry}
 use Rattle.book.specs.Book.{name_bytes, no_place, no_transfer, place_record, place_at, transfer_record, transfer_at, total, is_some, is_well_formed, open_place, set_record, set_transfer}
 use Rattle.book.specs.Steps.{Step, Open, Act, Begin, Finish, Cancel, credits_in, bytes_in, adds, doing, acts, said, same_bytes, after_check, sheet_sound, sent_to, tests_open, tests_act, tests_begin, seen, answer, effect, next}
-use Rattle.book.specs.Refusals.{book_refusal_of, book_answer_of}
+use Rattle.book.specs.Refusals.{book_refusal_of, book_answer_of, BookOutcome}
 use Rattle.book.specs.declared.Book.{Book}
 use Rattle.book.specs.declared.error.BookError.{BookError}
 use Rattle.book.specs.declared.error.BookError.TheVariants.{Profile, UnderWay, OffTheBook, Idle, Itself, TooMuch, OtherUnit, LongName, BadBook}
-use Rattle.book.specs.declared.error.BookOutcome.{BookOutcome}
-use Rattle.book.specs.declared.error.BookOutcome.TheVariants.{Accepted, Refused}
 use Rattle.book.proofs.Tables.{bit_other}
 use Rattle.book.proofs.Invariant.{view_there}
+use Rattle.std.specs.Prelude.{Ok, Err}
 
 -- ---- the number
 
@@ -42,11 +40,11 @@ refusal_positive (LongName name) = omega arith
 refusal_positive BadBook = omega arith
 
 -- it is 0 exactly where the outcome is accepted
-pub zero_is_accepted : (o : BookOutcome) → (book_answer_of o).number ≡ 0 → o ≡ Accepted
-zero_is_accepted Accepted h = refl
-zero_is_accepted (Refused e) h = absurd (omega (arith, h, refusal_positive e))
+pub zero_is_accepted : (o : BookOutcome) → (book_answer_of o).number ≡ 0 → o ≡ Ok tt
+zero_is_accepted (Ok _) h = refl
+zero_is_accepted (Err e) h = absurd (omega (arith, h, refusal_positive e))
 
-pub accepted_is_zero : (o : BookOutcome) → o ≡ Accepted → (book_answer_of o).number ≡ 0
+pub accepted_is_zero : (o : BookOutcome) → o ≡ Ok tt → (book_answer_of o).number ≡ 0
 accepted_is_zero o h = rw h
 
 -- Demand 1: "a refusal alters no .. book"
@@ -55,8 +53,8 @@ unfolding next
 refusal_alters_nothing b s h = go (answer b s) refl
   where
     go : (o : BookOutcome) → answer b s ≡ o → next b s ≡ b
-    go Accepted e = absurd (h (accepted_is_zero (answer b s) e))
-    go (Refused r) e = rw e
+    go (Ok _) e = absurd (h (accepted_is_zero (answer b s) e))
+    go (Err r) e = rw e
 
 -- ---- the answer
 
@@ -77,15 +75,15 @@ module _ (b : Book) where
   unfolding seen
   its_total = refl
 
-  has_room : (p o n : ℕ) → (adds o ≡ true → total b + n < limit) → after_check (doing o) (seen b) p n ≡ Accepted
+  has_room : (p o n : ℕ) → (adds o ≡ true → total b + n < limit) → after_check (doing o) (seen b) p n ≡ Ok tt
   unfolding doing
   has_room p o n room = go (adds o) refl
     where
-      go : (x : Bool) → adds o ≡ x → after_check (doing o) (seen b) p n ≡ Accepted
+      go : (x : Bool) → adds o ≡ x → after_check (doing o) (seen b) p n ≡ Ok tt
       go true e = rw (e, its_total, lt-leb limit (total b + n) (room e))
       go false e = rw e
 
-  module _ (sound : is_well_formed b ≡ true) (i : List ℕ) (sheet : sheet_sound i ≡ Accepted) where
+  module _ (sound : is_well_formed b ≡ true) (i : List ℕ) (sheet : sheet_sound i ≡ Ok tt) where
     -- 26, 27 and 25 are not met
     pub open_is_check : (p : ℕ) → p < 16 → is_some (place_at b p) ≡ false → same_bytes (name_bytes b.unit) (bytes_in unit i) ≡ true
         → length (bytes_in subject i) ≤ 32 → total b + credits_in balance i < limit
@@ -94,8 +92,8 @@ module _ (b : Book) where
     open_is_check p low closed same short room = go (balance_rules amount_in ((seen b).place p) (field i) 11) refl
       where
         go : (x : Outcome) → balance_rules amount_in ((seen b).place p) (field i) 11 ≡ x → answer b (Open p i) ≡ said (balance_rules amount_in ((seen b).place p) (field i) 11)
-        go Check.Accepted e = rw (sound, lt-leb 16 p low, there p closed, sheet, its_unit, same, le-ltb 32 (length (bytes_in subject i)) short, its_total, lt-leb limit (total b + credits_in balance i) room, e)
-        go (Check.Refused r) e = rw (sound, lt-leb 16 p low, there p closed, sheet, its_unit, same, le-ltb 32 (length (bytes_in subject i)) short, its_total, lt-leb limit (total b + credits_in balance i) room, e)
+        go (Ok _) e = rw (sound, lt-leb 16 p low, there p closed, sheet, its_unit, same, le-ltb 32 (length (bytes_in subject i)) short, its_total, lt-leb limit (total b + credits_in balance i) room, e)
+        go (Err r) e = rw (sound, lt-leb 16 p low, there p closed, sheet, its_unit, same, le-ltb 32 (length (bytes_in subject i)) short, its_total, lt-leb limit (total b + credits_in balance i) room, e)
 
     -- 25 is not met: where it adds, there is room
     pub act_is_check : (p o : ℕ) → p < 16 → is_some (place_at b p) ≡ true → acts o ≡ true → (adds o ≡ true → total b + credits_in amount i < limit)
@@ -104,8 +102,8 @@ module _ (b : Book) where
     act_is_check p o low here known room = go (balance_rules amount_in ((seen b).place p) (field i) o) refl
       where
         go : (x : Outcome) → balance_rules amount_in ((seen b).place p) (field i) o ≡ x → answer b (Act p o i) ≡ said (balance_rules amount_in ((seen b).place p) (field i) o)
-        go Check.Accepted e = rw (sound, lt-leb 16 p low, there p here, sheet, known, has_room p o (credits_in amount i) room, e)
-        go (Check.Refused r) e = rw (sound, lt-leb 16 p low, there p here, sheet, known, has_room p o (credits_in amount i) room, e)
+        go (Ok _) e = rw (sound, lt-leb 16 p low, there p here, sheet, known, has_room p o (credits_in amount i) room, e)
+        go (Err r) e = rw (sound, lt-leb 16 p low, there p here, sheet, known, has_room p o (credits_in amount i) room, e)
 
     -- with the destination's subject as to_subject
     pub begin_is_check : (f g t : ℕ) → f < 16 → g < 16 → t < 8 → f ≢ g → is_some (transfer_at b t) ≡ false → is_some (place_at b f) ≡ true → is_some (place_at b g) ≡ true
@@ -114,8 +112,8 @@ module _ (b : Book) where
     begin_is_check f g t low low_to low-t apart free here here-to = go (balance_rules amount_in ((seen b).place f) (sent_to (seen b) g i) 15) refl
       where
         go : (x : Outcome) → balance_rules amount_in ((seen b).place f) (sent_to (seen b) g i) 15 ≡ x → answer b (Begin f g t i) ≡ said (balance_rules amount_in ((seen b).place f) (sent_to (seen b) g i) 15)
-        go Check.Accepted e = rw (sound, lt-leb 16 f low, lt-leb 16 g low_to, lt-leb 8 t low-t, ne_eqb f g apart, busy t free, there f here, there g here-to, sheet, e)
-        go (Check.Refused r) e = rw (sound, lt-leb 16 f low, lt-leb 16 g low_to, lt-leb 8 t low-t, ne_eqb f g apart, busy t free, there f here, there g here-to, sheet, e)
+        go (Ok _) e = rw (sound, lt-leb 16 f low, lt-leb 16 g low_to, lt-leb 8 t low-t, ne_eqb f g apart, busy t free, there f here, there g here-to, sheet, e)
+        go (Err r) e = rw (sound, lt-leb 16 f low, lt-leb 16 g low_to, lt-leb 8 t low-t, ne_eqb f g apart, busy t free, there f here, there g here-to, sheet, e)
 
 -- ---- the frame
 
@@ -174,8 +172,8 @@ module _ (b : Book) (q : ℕ) where
     other_places h = go (answer b s) refl
       where
         go : (o : BookOutcome) → answer b s ≡ o → SamePlace b (next b s) q
-        go Accepted e = rw e (place_kept s h)
-        go (Refused r) e = rw e (refl, refl)
+        go (Ok _) e = rw e (place_kept s h)
+        go (Err r) e = rw e (refl, refl)
 
     -- every other transfer is as it was, under way or not
     pub other_transfers : (Names s q → ⊥) → SameTransfer b (next b s) q
@@ -183,8 +181,8 @@ module _ (b : Book) (q : ℕ) where
     other_transfers h = go (answer b s) refl
       where
         go : (o : BookOutcome) → answer b s ≡ o → SameTransfer b (next b s) q
-        go Accepted e = rw e (transfer_kept s h)
-        go (Refused r) e = rw e (refl, refl)
+        go (Ok _) e = rw e (transfer_kept s h)
+        go (Err r) e = rw e (refl, refl)
 
     pub same_unit : (next b s).unit ≡ b.unit
     unfolding next open_place set_record set_transfer
@@ -198,5 +196,5 @@ module _ (b : Book) (q : ℕ) where
         kept (Cancel t) = refl
 
         go : (o : BookOutcome) → answer b s ≡ o → (next b s).unit ≡ b.unit
-        go Accepted e = rw e (kept s)
-        go (Refused r) e = rw e
+        go (Ok _) e = rw e (kept s)
+        go (Err r) e = rw e

@@ -12,49 +12,46 @@ use lib.Seq.{length-take-le}
 use borrow.Author.Tests.{ne_eqb, ltb-true, leb-true}
 use Rattle.amount.specs.Amounts.{sum_of, difference_of}
 use Rattle.amount.specs.declared.Amount.{Amount}
-use Rattle.amount.specs.declared.AmountResult.TheVariants.{Ok}
 use Rattle.sheet.specs.Fields.{Field, text, field, subject, unit, balance, amount, to_subject, authorized_by}
+use Rattle.registry.proofs.Tests.{refused_never}
 use Rattle.registry.specs.Readers.{amount_in, amount_of, readable, read_amount, text_in, text_of}
 use Rattle.registry.specs.Tests.{Test, born, in_text, first, state_absent, state_there}
-use Rattle.registry.specs.declared.error.Outcome.TheVariants as Check
-use Rattle.registry.specs.declared.error.Reading.{Reading}
-use Rattle.registry.specs.declared.error.Reading.TheVariants.{Given, Failed}
+use Rattle.registry.specs.Refusals.{Reading}
 use Rattle.profiles.specs.Balance.{credited, debited, balance_rules}
 use Rattle.book.specs.Places.{place_view, closed_view}
 use Rattle.book.proofs.Accepted.{then_both}
-use Rattle.resource_state.specs.Next.{balance_of}
+use Rattle.resource_state.specs.Next.{balance_of, Next}
 use Rattle.resource_state.specs.Apply.{balance_next}
 use Rattle.transition.specs.Credit.{credit_by}
 use Rattle.resource_state.specs.declared.Part.{Part}
 use Rattle.resource_state.specs.declared.Part.TheVariants.{State, Input}
-use Rattle.resource_state.specs.declared.Next.{Next}
 use Rattle.book.specs.Book.{credits, whole_amount, name_bytes, name_ok, place_record, transfer_record, place_at, is_some}
 use Rattle.book.specs.Steps.{Open, Act, Begin, credits_in, adds, acts, changed, seen, sent_to, held_at, answer}
 use Rattle.book.specs.declared.Name.{Name}
 use Rattle.book.specs.declared.Book.{Book}
-use Rattle.book.specs.declared.error.BookOutcome.TheVariants.{Accepted}
-use Rattle.book.proofs.Rows.{refused_never, among_all}
+use Rattle.book.proofs.Rows.{among_all}
 use Rattle.book.proofs.Facts.{accepted_tests, Opens, opens, Acts, acts_so, Begins, begins}
 use Rattle.book.proofs.Formed.{Formed, formed, and_l, and_r}
 use Rattle.book.proofs.Views.{place_raw, open_lt}
 use Rattle.book.proofs.Invariant.{view_there, is_none}
 use Rattle.book.proofs.Effects.{asked, open_stores, act_adds, act_takes, begin_takes, end_adds}
 use Rattle.book.proofs.Endings.{ending, end, Ended, ended}
+use Rattle.std.specs.Prelude.{Ok, Err}
 
 -- a balance state with these texts and this amount
 abbrev pub made : Part → Part → Amount → Next
-made s u a = Next.State (balance_of s u a)
+made s u a = Ok (balance_of s u a)
 
-given_so : (r : Reading) → readable r ≡ Check.Accepted → r ≡ Given (read_amount r)
-given_so (Given a) h = refl
-given_so (Failed e) h = refused_never e h
+given_so : (r : Reading) → readable r ≡ Ok tt → r ≡ Ok (read_amount r)
+given_so (Ok a) h = refl
+given_so (Err e) h = refused_never e h
 
 full : (l : List ℕ) → 0 < length l → eqb (length l) 0 ≡ false
 full l h = ne_eqb (length l) 0 (λ e. omega arith)
 
 -- ---- at a place with a subject and a unit, an amount a that is read
 
-module _ (s u : List ℕ) (b : Amount) (inp : ℕ → Field) (hs : 0 < length s) (hu : 0 < length u) (a : Amount) (ha : amount_in amount (inp amount) ≡ Given a) where
+module _ (s u : List ℕ) (b : Amount) (inp : ℕ → Field) (hs : 0 < length s) (hu : 0 < length u) (a : Amount) (ha : amount_in amount (inp amount) ≡ Ok a) where
   Applied : ℕ → Type 0
   Applied o = (r : Amount) → cond (adds o) (sum_of b a) (difference_of b a) ≡ Ok r → balance_next amount_in (place_view s u b) inp o ≡ made (State subject) (State unit) r
 
@@ -68,7 +65,7 @@ module _ (s u : List ℕ) (b : Amount) (inp : ℕ → Field) (hs : 0 < length s)
       down : (r : Amount) → difference_of b a ≡ Ok r → balance_next amount_in (place_view s u b) inp 14 ≡ made (State subject) (State unit) r
       down r h = rw (full s hs, full u hu, ha, h)
 
-  transfer_applied : text_in to_subject (inp to_subject) ≡ Check.Accepted → (r : Amount) → difference_of b a ≡ Ok r → balance_next amount_in (place_view s u b) inp 15 ≡ made (State subject) (State unit) r
+  transfer_applied : text_in to_subject (inp to_subject) ≡ Ok tt → (r : Amount) → difference_of b a ≡ Ok r → balance_next amount_in (place_view s u b) inp 15 ≡ made (State subject) (State unit) r
   unfolding balance_next state_there text_of amount_of
   transfer_applied t r h = rw (t, full s hs, full u hu, ha, h)
 
@@ -76,7 +73,7 @@ module _ (s u : List ℕ) (b : Amount) (inp : ℕ → Field) (hs : 0 < length s)
 
 module _ (s u : List ℕ) (b : Amount) (inp : ℕ → Field) where
   Row-reads : List Test → Type 0
-  Row-reads ts = first amount_in (place_view s u b) inp ts ≡ Check.Accepted → readable (amount_in amount (inp amount)) ≡ Check.Accepted
+  Row-reads ts = first amount_in (place_view s u b) inp ts ≡ Ok tt → readable (amount_in amount (inp amount)) ≡ Ok tt
 
   reads_credited : Row-reads (born ∷ credited)
   unfolding Row-reads state_there
@@ -91,16 +88,16 @@ module _ (s u : List ℕ) (b : Amount) (inp : ℕ → Field) where
   reads_with n ts r h = r (then_both (text_in n (inp n)) _ h).1
 
   Reads : ℕ → Type 0
-  Reads o = balance_rules amount_in (place_view s u b) inp o ≡ Check.Accepted → readable (amount_in amount (inp amount)) ≡ Check.Accepted
+  Reads o = balance_rules amount_in (place_view s u b) inp o ≡ Ok tt → readable (amount_in amount (inp amount)) ≡ Ok tt
 
-  act_reads : (o : ℕ) → acts o ≡ true → balance_rules amount_in (place_view s u b) inp o ≡ Check.Accepted → amount_in amount (inp amount) ≡ Given (read_amount (amount_in amount (inp amount)))
+  act_reads : (o : ℕ) → acts o ≡ true → balance_rules amount_in (place_view s u b) inp o ≡ Ok tt → amount_in amount (inp amount) ≡ Ok (read_amount (amount_in amount (inp amount)))
   unfolding Reads Row-reads acts balance_rules
   act_reads o k h =
       given_so (amount_in amount (inp amount))
       (among_all Reads (12 ∷ 13 ∷ 14 ∷ 16 ∷ 17 ∷ 18 ∷ 19 ∷ [])
       (reads_with authorized_by credited reads_credited, (reads_credited, (reads_debited, (reads_debited, (reads_credited, (reads_debited, (reads_with authorized_by debited reads_debited, tt))))))) o k h)
 
-  transfer_reads : balance_rules amount_in (place_view s u b) inp 15 ≡ Check.Accepted → (text_in to_subject (inp to_subject) ≡ Check.Accepted) × (amount_in amount (inp amount) ≡ Given (read_amount (amount_in amount (inp amount))))
+  transfer_reads : balance_rules amount_in (place_view s u b) inp 15 ≡ Ok tt → (text_in to_subject (inp to_subject) ≡ Ok tt) × (amount_in amount (inp amount) ≡ Ok (read_amount (amount_in amount (inp amount))))
   unfolding Row-reads balance_rules state_there
   transfer_reads h =
       ((then_both (text_in to_subject (inp to_subject)) _ h).0, given_so (amount_in amount (inp amount)) (reads_with to_subject debited reads_debited h))
@@ -135,19 +132,19 @@ unfolding seen
 view_is b p here = rw (place_raw b p here).1
 
 -- open: what create makes of the sheet; its balance is what the place gets
-pub open_is_apply : (b : Book) (p : ℕ) (i : List ℕ) → answer b (Open p i) ≡ Accepted
+pub open_is_apply : (b : Book) (p : ℕ) (i : List ℕ) → answer b (Open p i) ≡ Ok tt
     → balance_next amount_in ((seen b).place p) (field i) 11 ≡ made (Input subject) (Input unit) (whole_amount (credits_in balance i))
 unfolding seen balance_rules balance_next state_absent
 open_is_apply b p i h =
     let f : Opens (seen b) p i = opens (seen b) p i (accepted_tests b (Open p i) h).1 in
     let closed : place_at b p ≡ none = is_none (place_at b p) (sym (view_there (name_bytes b.unit) (place_at b p)) ∙ f.closed) in
-    let check : balance_rules amount_in closed_view (field i) 11 ≡ Check.Accepted = rw closed at f.check in
+    let check : balance_rules amount_in closed_view (field i) 11 ≡ Ok tt = rw closed at f.check in
     let t = then_both (text_in subject (field i subject)) _ check in
     let r = then_both (text_in unit (field i unit)) _ t.1 in
     rw (t.0, r.0, open_stores b p i h)
 
 -- act: what the operation makes of the place
-pub act_is_apply : (b : Book) (p o : ℕ) (i : List ℕ) → Named b p → answer b (Act p o i) ≡ Accepted
+pub act_is_apply : (b : Book) (p o : ℕ) (i : List ℕ) → Named b p → answer b (Act p o i) ≡ Ok tt
     → balance_next amount_in ((seen b).place p) (field i) o ≡ made (State subject) (State unit) (whole_amount (changed o (held_at b p) (credits_in amount i)))
 unfolding Applied
 act_is_apply b p o i n h =
@@ -166,7 +163,7 @@ act_is_apply b p o i n h =
     go false e = rw e (act_takes b p o i h e)
 
 -- begin: what transfer makes of the source, with the destination's subject as to_subject
-pub begin_is_apply : (b : Book) (f g t : ℕ) (i : List ℕ) → Named b f → answer b (Begin f g t i) ≡ Accepted
+pub begin_is_apply : (b : Book) (f g t : ℕ) (i : List ℕ) → Named b f → answer b (Begin f g t i) ≡ Ok tt
     → balance_next amount_in ((seen b).place f) (sent_to (seen b) g i) 15 ≡ made (State subject) (State unit) (whole_amount (held_at b f - credits_in amount i))
 begin_is_apply b f g t i n h =
     let w : Formed b = formed b (accepted_tests b (Begin f g t i) h).0 in
@@ -181,8 +178,8 @@ begin_is_apply b f g t i n h =
 
 -- finish and cancel: what credit makes of the end where the credits land, by an input whose to_subject is that end's subject and whose amount
 -- is the transfer's. The other end is its source: a cancel is the transfer turned round
-pub end_is_credit : (b : Book) (t : ℕ) (back : Bool) (inp : ℕ → Field) → b.opened < 2 ^ 16 → Named b (end b t back) → answer b (ending t back) ≡ Accepted
-    → inp to_subject ≡ text (name_bytes (place_record b (end b t back)).subject) → amount_in amount (inp amount) ≡ Given (transfer_record b t).amount
+pub end_is_credit : (b : Book) (t : ℕ) (back : Bool) (inp : ℕ → Field) → b.opened < 2 ^ 16 → Named b (end b t back) → answer b (ending t back) ≡ Ok tt
+    → inp to_subject ≡ text (name_bytes (place_record b (end b t back)).subject) → amount_in amount (inp amount) ≡ Ok (transfer_record b t).amount
     → credit_by amount_in ((seen b).place (end b t (not back))) ((seen b).place (end b t back)) inp 15
     ≡ made (Input to_subject) (State unit) (whole_amount (held_at b (end b t back) + credits (transfer_record b t).amount))
 unfolding credit_by state_there text_in text_of amount_of

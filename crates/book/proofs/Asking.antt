@@ -9,7 +9,7 @@ use Rattle.amount.specs.declared.Amount.{Amount}
 use Rattle.sheet.specs.Fields.{Field, text, to_subject}
 use Rattle.registry.specs.Readers.{text_in}
 use Rattle.registry.specs.Tests.{state_there, first, born, in_text}
-use Rattle.registry.specs.declared.error.Reading.{Reading}
+use Rattle.registry.specs.Refusals.{Reading}
 use Rattle.profiles.specs.Balance.{debited}
 use Rattle.book.specs.Places.{place_view, put_field}
 

@@ -11,7 +11,6 @@ use Rattle.amount.specs.Numbers.{limit}
 use Rattle.amount.proofs.Halves.{val_halves}
 use Rattle.sheet.specs.Fields.{Field, field, text, subject, amount, to_subject}
 use Rattle.registry.specs.Readers.{amount_in}
-use Rattle.registry.specs.declared.error.Outcome.TheVariants as Check
 use Rattle.profiles.specs.Balance.{balance_rules}
 use Rattle.book.specs.Places.{put_field}
 use Rattle.book.specs.Book.{whole_amount, name_bytes, place_record, place_at, transfer_at, carried_by, total, is_some, set_balance, set_credits, set_transfer}
@@ -20,12 +19,12 @@ use Rattle.book.specs.Plain.{Holding, Plain, worth, stock, holds, plain_credits,
 use Rattle.book.specs.Claim.{route, cell, cell_at}
 use Rattle.book.specs.declared.Transfer.{Transfer}
 use Rattle.book.specs.declared.Book.{Book}
-use Rattle.book.specs.declared.error.BookOutcome.TheVariants.{Accepted}
 use Rattle.book.proofs.Tables.{Altered, altered_all, altered_map, altered_is}
 use Rattle.book.proofs.Rows.{Affords, transfer_affords}
 use Rattle.book.proofs.Facts.{follow, same, Begins, begins}
 use Rattle.book.proofs.Views.{PlaceSet, TransferSet, same_transfers, same_unit, same_places, unit_same, good_transfer, transfer_set, transfer_sound, total_transfer, coming_transfer, coming, toward, toward_none, toward_hit, toward_miss}
 use Rattle.book.proofs.Invariant.{Inv, Kept, credited, holding, view_there, is_none, place_is, plain_is, whole_is, SetBoth, credits_both, plain_credits_lem, plain_total_lem}
+use Rattle.std.specs.Prelude.{Ok}
 
 -- n credits that no place holds are put under way, and in the plain book into the place h where they end
 module _ {d : ℕ → Bool} {b : Book} {l : Plain} (v : Inv d b l) (f g t n h : ℕ) (ends : cond (d t) f g ≡ h) (low : h < 16) (small : t < 8)
@@ -108,7 +107,7 @@ back l p w n s h k q =
 
 -- the transfer's credits go to `to` in the end; where they go back the plain book is not fed the begin
 pub kept_begin : (b : Book) (l : Plain) (f g t : ℕ) (i : List ℕ) (d : ℕ → Bool) → Inv d b l
-    → first_refusal (tests_begin (seen b) f g t i) ≡ Accepted → Kept d b l (Begin f g t i)
+    → first_refusal (tests_begin (seen b) f g t i) ≡ Ok tt → Kept d b l (Begin f g t i)
 unfolding seen plain_seen plain_answer tests_begin credits_in r c m
 kept_begin b l f g t i d v z =
     record {
@@ -154,7 +153,7 @@ kept_begin b l f g t i d v z =
     enough : n ≤ held_at b f
     enough = a.within refl
 
-    checks : balance_rules amount_in (plain_view u (l f)) (put_field (field i) to_subject ((plain_view u (l g)).at subject)) 15 ≡ Check.Accepted
+    checks : balance_rules amount_in (plain_view u (l f)) (put_field (field i) to_subject ((plain_view u (l g)).at subject)) 15 ≡ Ok tt
     checks =
         rw (plain_is v f k.low_from here_f, plain_is v g k.low_to here_g)
         (a.more s_f u (whole_amount (held_at b f + coming d b f)) refl (rw (val_halves (held_at b f + coming d b f)) (omega arith)))

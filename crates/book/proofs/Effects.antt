@@ -13,17 +13,13 @@ use Rattle.amount.specs.Numbers.{val, limit, halves}
 use Rattle.amount.specs.Decimal.{all_digits, decimal}
 use Rattle.amount.specs.Amounts.{amount_if, read_of, mantissa_at, common_scale, sum_of, difference_of}
 use Rattle.amount.specs.declared.Amount.{Amount}
-use Rattle.amount.specs.declared.AmountResult.TheVariants.{Ok}
-use Rattle.amount.specs.declared.AmountResult.TheVariants as Read
 use Rattle.amount.proofs.Halves.{val_halves}
 use Rattle.sheet.specs.Fields.{Field, absent, text, figure, other, field, subject, unit, balance, amount, to_subject}
-use Rattle.registry.specs.Refusals.{zero_amount}
+use Rattle.registry.proofs.Tests.{refused_never}
+use Rattle.registry.specs.Refusals.{zero_amount, Reading}
 use Rattle.registry.specs.Readers.{marked, parsed, given_or, amount_by, amount_in, readable, read_amount, text_in}
 use Rattle.registry.specs.Tests.{state_absent}
 use Rattle.registry.specs.declared.error.ProfileError.TheVariants.{NotWhole, FloatForbidden}
-use Rattle.registry.specs.declared.error.Outcome.TheVariants as Check
-use Rattle.registry.specs.declared.error.Reading.{Reading}
-use Rattle.registry.specs.declared.error.Reading.TheVariants.{Given, Failed}
 use Rattle.profiles.specs.Balance.{balance_rules}
 use Rattle.book.specs.Places.{place_view, closed_view, put_field}
 use Rattle.book.proofs.Accepted.{then_both}
@@ -31,14 +27,15 @@ use Rattle.book.specs.Book.{credits, whole_amount, name_bytes, place_record, tra
 use Rattle.book.specs.Steps.{Open, Act, Begin, credits_in, Doing, Issuing, Taking, doing, adds, seen, held_at, answer}
 use Rattle.book.specs.declared.Book.{Book}
 use Rattle.book.specs.declared.error.BookError.TheVariants.{TooMuch}
-use Rattle.book.specs.declared.error.BookOutcome.TheVariants.{Accepted}
 use Rattle.book.proofs.Tables.{sum_part}
-use Rattle.book.proofs.Rows.{refused_never, adds_is, act_affords, transfer_affords}
+use Rattle.book.proofs.Rows.{adds_is, act_affords, transfer_affords}
 use Rattle.book.proofs.Facts.{unmet, accepted_tests, Opens, opens, Acts, acts_so, Begins, begins}
 use Rattle.book.proofs.Formed.{Formed, formed}
 use Rattle.book.proofs.Views.{place_raw, transfer_raw, open_lt}
 use Rattle.book.proofs.Invariant.{view_there, is_none}
 use Rattle.book.proofs.Endings.{ending, end, Ended, ended}
+use Rattle.std.specs.Prelude.{Ok, Err}
+use Rattle.amount.specs.declared.AmountError.{AmountError}
 
 -- ---- amounts
 
@@ -58,8 +55,8 @@ amount_whole n other = zero_whole
 amount_whole n (text t) = go (marked t) (leb 1 (length t) && leb (length t) 39 && all_digits t && ltb (decimal t) limit)
   where
     go : (m q : Bool)
-        → read_amount (cond m (Failed (FloatForbidden n)) (given_or (NotWhole n) (cond q (Ok (whole_amount (decimal t))) Read.NotWhole)))
-        ≡ whole_amount (credits (read_amount (cond m (Failed (FloatForbidden n)) (given_or (NotWhole n) (cond q (Ok (whole_amount (decimal t))) Read.NotWhole)))))
+        → read_amount (cond m (Err (FloatForbidden n)) (given_or (NotWhole n) (cond q (Ok (whole_amount (decimal t))) (Err AmountError.NotWhole))))
+        ≡ whole_amount (credits (read_amount (cond m (Err (FloatForbidden n)) (given_or (NotWhole n) (cond q (Ok (whole_amount (decimal t))) (Err AmountError.NotWhole))))))
     go true q = zero_whole
     go false true = ap whole_amount (sym (val_halves (decimal t)))
     go false false = zero_whole
@@ -108,20 +105,20 @@ module _ (b : Book) (f : Formed b) where
 -- ---- each step
 
 -- open stores the very amount that the sheet gives
-pub open_stores : (b : Book) (p : ℕ) (i : List ℕ) → answer b (Open p i) ≡ Accepted → amount_in balance (field i balance) ≡ Given (whole_amount (credits_in balance i))
+pub open_stores : (b : Book) (p : ℕ) (i : List ℕ) → answer b (Open p i) ≡ Ok tt → amount_in balance (field i balance) ≡ Ok (whole_amount (credits_in balance i))
 unfolding seen balance_rules state_absent credits_in
 open_stores b p i h =
     let f : Opens (seen b) p i = opens (seen b) p i (accepted_tests b (Open p i) h).1 in
     let closed : place_at b p ≡ none = is_none (place_at b p) (sym (view_there (name_bytes b.unit) (place_at b p)) ∙ f.closed) in
-    let check : balance_rules amount_in closed_view (field i) 11 ≡ Check.Accepted = rw closed at f.check in
+    let check : balance_rules amount_in closed_view (field i) 11 ≡ Ok tt = rw closed at f.check in
     let t = (then_both (text_in subject (field i subject)) _ check).1 in
     let r = (then_both (text_in unit (field i unit)) _ t).1 in
     go (amount_in balance (field i balance)) refl (then_both (readable (amount_in balance (field i balance))) _ r).0
   where
-    go : (x : Reading) → amount_in balance (field i balance) ≡ x → readable x ≡ Check.Accepted
-        → amount_in balance (field i balance) ≡ Given (whole_amount (credits (read_amount (amount_in balance (field i balance)))))
-    go (Given a) e k = rw (← amount_whole balance (field i balance)) (e ∙ ap (λ (y : Reading). Given (read_amount y)) (sym e))
-    go (Failed z) e k = refused_never z k
+    go : (x : Reading) → amount_in balance (field i balance) ≡ x → readable x ≡ Ok tt
+        → amount_in balance (field i balance) ≡ Ok (whole_amount (credits (read_amount (amount_in balance (field i balance)))))
+    go (Ok a) e k = rw (← amount_whole balance (field i balance)) (e ∙ ap (λ (y : Reading). Ok (read_amount y)) (sym e))
+    go (Err z) e k = refused_never z k
 
 -- an amount that the sheet gives, added to a balance and taken from it
 plus_asked : (a : Amount) (i : List ℕ) → a.scale ≡ 0 → credits a + credits_in amount i < limit
@@ -136,7 +133,7 @@ less_asked a i h l m =
     let n : ℕ = credits_in amount i in
     rw (asked_whole amount i) (rw (val_halves n) at (difference_whole a (whole_amount n) h refl l (rw (val_halves n) m)))
 
-module _ (b : Book) (p o : ℕ) (i : List ℕ) (h : answer b (Act p o i) ≡ Accepted) where
+module _ (b : Book) (p o : ℕ) (i : List ℕ) (h : answer b (Act p o i) ≡ Ok tt) where
   sound : Formed b
   sound = formed b (accepted_tests b (Act p o i) h).0
 
@@ -165,13 +162,13 @@ module _ (b : Book) (p o : ℕ) (i : List ℕ) (h : answer b (Act p o i) ≡ Acc
   pub act_takes : adds o ≡ false → difference_of (place_record b p).balance (asked amount i) ≡ Ok (whole_amount (held_at b p - credits_in amount i))
   unfolding seen credits_in
   act_takes down =
-      let w : balance_rules amount_in (place_view (name_bytes (place_record b p).subject) (name_bytes b.unit) (place_record b p).balance) (field i) o ≡ Check.Accepted =
+      let w : balance_rules amount_in (place_view (name_bytes (place_record b p).subject) (name_bytes b.unit) (place_record b p).balance) (field i) o ≡ Ok tt =
       rw (place_raw b p here).1 at facts.check in
       let a = act_affords (name_bytes (place_record b p).subject) (name_bytes b.unit) (place_record b p).balance (sound.whole_places p facts.low).balance (field i) o facts.operation w in
       less_asked (place_record b p).balance i (sound.whole_places p facts.low).balance (omega (arith, sound.fits, held_fits)) (a.within down)
 
 -- begin: no underflow
-pub begin_takes : (b : Book) (f g t : ℕ) (i : List ℕ) → answer b (Begin f g t i) ≡ Accepted
+pub begin_takes : (b : Book) (f g t : ℕ) (i : List ℕ) → answer b (Begin f g t i) ≡ Ok tt
     → difference_of (place_record b f).balance (asked amount i) ≡ Ok (whole_amount (held_at b f - credits_in amount i))
 unfolding seen credits_in total
 begin_takes b f g t i h =
@@ -186,7 +183,7 @@ begin_takes b f g t i h =
     less_asked (place_record b f).balance i (w.whole_places f k.low_from).balance (omega (arith, w.fits, held_part b w f k.low_from here_f)) (a.within refl)
 
 -- finish and cancel, where a transfer's credits land: no overflow. `opened` is a 16-bit number
-pub end_adds : (b : Book) (t : ℕ) (back : Bool) → b.opened < 2 ^ 16 → answer b (ending t back) ≡ Accepted
+pub end_adds : (b : Book) (t : ℕ) (back : Bool) → b.opened < 2 ^ 16 → answer b (ending t back) ≡ Ok tt
     → sum_of (place_record b (end b t back)).balance (transfer_record b t).amount ≡ Ok (whole_amount (held_at b (end b t back) + credits (transfer_record b t).amount))
 unfolding seen total
 end_adds b t back few h =

@@ -5,11 +5,11 @@ use Prim.Native.Nat.{ℕ}
 use Rattle.book.specs.Book.{transfer_record, place_at, is_some, is_well_formed}
 use Rattle.book.specs.Steps.{Step, Finish, Cancel, seen, tests_finish, first_refusal, answer, landed, effect, next}
 use Rattle.book.specs.declared.Book.{Book}
-use Rattle.book.specs.declared.error.BookOutcome.TheVariants.{Accepted}
 use Rattle.book.proofs.Facts.{accepted_tests, Finishes, finishes}
 use Rattle.book.proofs.Formed.{Formed, formed}
 use Rattle.book.proofs.Views.{home, home_open, transfer_raw}
 use Rattle.book.proofs.Whole.{next_accepted}
+use Rattle.std.specs.Prelude.{Ok}
 
 -- the end of transfer t, whose credits go back or not
 abbrev pub ending : ℕ → Bool → Step
@@ -27,7 +27,7 @@ module _ (b : Book) (t : ℕ) where
     pub here : (k : Bool) → is_some (place_at b (end k)) ≡ true
     pub left : next b (ending t back) ≡ landed b t (end back)
 
-  tested : (back : Bool) → answer b (ending t back) ≡ Accepted → (is_well_formed b ≡ true) × (first_refusal (tests_finish (seen b) t) ≡ Accepted)
+  tested : (back : Bool) → answer b (ending t back) ≡ Ok tt → (is_well_formed b ≡ true) × (first_refusal (tests_finish (seen b) t) ≡ Ok tt)
   tested true h = accepted_tests b (Cancel t) h
   tested false h = accepted_tests b (Finish t) h
 
@@ -35,7 +35,7 @@ module _ (b : Book) (t : ℕ) where
   lands true = refl
   lands false = refl
 
-  pub ended : (back : Bool) → answer b (ending t back) ≡ Accepted → Ended back
+  pub ended : (back : Bool) → answer b (ending t back) ≡ Ok tt → Ended back
   unfolding seen
   ended back h =
       let w : Formed b = formed b (tested back h).0 in

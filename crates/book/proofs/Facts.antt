@@ -5,15 +5,14 @@ use mathlib.Core.Logic.{◌≢◌}
 use mathlib.Core.Bool.{Bool, true, false, not, ◌&&◌, ◌||◌, true≢false}
 use mathlib.Core.List.{List, [], ◌∷◌}
 use Prim.Native.Nat.{ℕ, ◌+◌, ◌≤◌, ◌<◌}
-use native.Mathlib.Omega.{arith}
 use lib.Dec.{eqb, leb, ltb}
 use lib.ListN.{length}
 use borrow.Author.Tests.{leb-false, lt-leb, ltb-false, eqb-false, not-false}
 use Rattle.amount.specs.Numbers.{limit}
 use Rattle.sheet.specs.Fields.{field, subject, unit, balance, amount}
+use Rattle.registry.proofs.Tests.{refused_never}
 use Rattle.registry.specs.Readers.{amount_in}
-use Rattle.registry.specs.declared.error.Outcome.{Outcome}
-use Rattle.registry.specs.declared.error.Outcome.TheVariants as Check
+use Rattle.registry.specs.Refusals.{Outcome}
 use Rattle.registry.specs.declared.error.ProfileError.TheVariants.{UnknownOperation, Born, Unborn}
 use Rattle.profiles.specs.Balance.{balance_rules}
 use Rattle.book.specs.Book.{is_well_formed}
@@ -21,59 +20,56 @@ use Rattle.book.specs.Steps.{credits_in, bytes_in, doing, acts, refused_if, said
 use Rattle.book.specs.declared.Book.{Book}
 use Rattle.book.specs.declared.error.BookError.{BookError}
 use Rattle.book.specs.declared.error.BookError.TheVariants.{Profile, UnderWay, OffTheBook, Idle, Itself, TooMuch, OtherUnit, LongName, BadBook}
-use Rattle.book.specs.declared.error.BookOutcome.{BookOutcome}
-use Rattle.book.specs.declared.error.BookOutcome.TheVariants.{Accepted, Refused}
+use Rattle.book.specs.Refusals.{BookOutcome}
+use Rattle.std.specs.Prelude.{Ok, Err}
 
 -- ---- tests that were passed
 
 abbrev pub Passed : List BookOutcome → Type 0
 Passed [] = Unit {0}
-Passed (t ∷ ts) = (t ≡ Accepted) × Passed ts
+Passed (t ∷ ts) = (t ≡ Ok tt) × Passed ts
 
-pub refused_never : {A : Type 0} (e : BookError) → Refused e ≡ Accepted → A
-refused_never e h = let z : ◌≡◌ {A = ℕ} 0 1 = cc in absurd (omega arith)
-
-pub passed : (ts : List BookOutcome) → first_refusal ts ≡ Accepted → Passed ts
+pub passed : (ts : List BookOutcome) → first_refusal ts ≡ Ok tt → Passed ts
 passed [] h = tt
-passed (Accepted ∷ ts) h = (refl, passed ts h)
-passed (Refused e ∷ ts) h = refused_never e h
+passed (Ok _ ∷ ts) h = (refl, passed ts h)
+passed (Err e ∷ ts) h = refused_never e h
 
-pub pass : (ts : List BookOutcome) → Passed ts → first_refusal ts ≡ Accepted
+pub pass : (ts : List BookOutcome) → Passed ts → first_refusal ts ≡ Ok tt
 pass [] h = refl
-pass (Accepted ∷ ts) h = pass ts h.1
-pass (Refused e ∷ ts) h = refused_never e h.0
+pass (Ok _ ∷ ts) h = pass ts h.1
+pass (Err e ∷ ts) h = refused_never e h.0
 
 -- each of the tests us is passed if its neighbour of ts is
 abbrev pub Follow : List BookOutcome → List BookOutcome → Type 0
 Follow [] [] = Unit {0}
 Follow [] (u ∷ us) = ⊥
 Follow (t ∷ ts) [] = Unit {0}
-Follow (t ∷ ts) (u ∷ us) = (t ≡ Accepted → u ≡ Accepted) × Follow ts us
+Follow (t ∷ ts) (u ∷ us) = (t ≡ Ok tt → u ≡ Ok tt) × Follow ts us
 
-pub follow : (ts us : List BookOutcome) → Follow ts us → first_refusal ts ≡ Accepted → first_refusal us ≡ Accepted
+pub follow : (ts us : List BookOutcome) → Follow ts us → first_refusal ts ≡ Ok tt → first_refusal us ≡ Ok tt
 follow [] [] f h = refl
 follow [] (u ∷ us) f h = absurd f
 follow (t ∷ ts) [] f h = refl
-follow (Refused e ∷ ts) (u ∷ us) f h = refused_never e h
-follow (Accepted ∷ ts) (u ∷ us) f h = go u (f.0 refl) (follow ts us f.1 h)
+follow (Err e ∷ ts) (u ∷ us) f h = refused_never e h
+follow (Ok _ ∷ ts) (u ∷ us) f h = go u (f.0 refl) (follow ts us f.1 h)
   where
-    go : (x : BookOutcome) → x ≡ Accepted → first_refusal us ≡ Accepted → first_refusal (x ∷ us) ≡ Accepted
-    go Accepted e k = k
-    go (Refused r) e k = refused_never r e
+    go : (x : BookOutcome) → x ≡ Ok tt → first_refusal us ≡ Ok tt → first_refusal (x ∷ us) ≡ Ok tt
+    go (Ok _) e k = k
+    go (Err r) e k = refused_never r e
 
-pub same : {t : BookOutcome} → t ≡ Accepted → t ≡ Accepted
+pub same : {t : BookOutcome} → t ≡ Ok tt → t ≡ Ok tt
 same h = h
 
-pub unmet : (t : Bool) (e : BookError) → refused_if t e ≡ Accepted → t ≡ false
+pub unmet : (t : Bool) (e : BookError) → refused_if t e ≡ Ok tt → t ≡ false
 unmet true e h = refused_never e h
 unmet false e h = refl
 
-pub met_not : (t : Bool) (e : BookError) → t ≡ false → refused_if t e ≡ Accepted
+pub met_not : (t : Bool) (e : BookError) → t ≡ false → refused_if t e ≡ Ok tt
 met_not t e h = rw h
 
-said_so : (o : Outcome) → said o ≡ Accepted → o ≡ Check.Accepted
-said_so Check.Accepted h = refl
-said_so (Check.Refused e) h = refused_never (Profile e) h
+said_so : (o : Outcome) → said o ≡ Ok tt → o ≡ Ok tt
+said_so (Ok _) h = refl
+said_so (Err e) h = refused_never (Profile e) h
 
 or_l : (s t : Bool) → s || t ≡ false → s ≡ false
 or_l true t h = h
@@ -92,12 +88,12 @@ both_r true t h = not-false t h
 both_r false t h = absurd (true≢false h)
 
 -- 28 and the rest
-pub accepted_tests : (b : Book) (s : Step) → answer b s ≡ Accepted → (is_well_formed b ≡ true) × (first_refusal (tests_of (seen b) s) ≡ Accepted)
+pub accepted_tests : (b : Book) (s : Step) → answer b s ≡ Ok tt → (is_well_formed b ≡ true) × (first_refusal (tests_of (seen b) s) ≡ Ok tt)
 unfolding answer
 accepted_tests b s h = go (is_well_formed b) refl h
   where
-    go : (w : Bool) → is_well_formed b ≡ w → first_refusal (refused_if (not w) BadBook ∷ tests_of (seen b) s) ≡ Accepted
-        → (is_well_formed b ≡ true) × (first_refusal (tests_of (seen b) s) ≡ Accepted)
+    go : (w : Bool) → is_well_formed b ≡ w → first_refusal (refused_if (not w) BadBook ∷ tests_of (seen b) s) ≡ Ok tt
+        → (is_well_formed b ≡ true) × (first_refusal (tests_of (seen b) s) ≡ Ok tt)
     go true e k = (e, k)
     go false e k = refused_never BadBook k
 
@@ -106,14 +102,14 @@ accepted_tests b s h = go (is_well_formed b) refl h
 pub record Opens (s : Seen) (p : ℕ) (i : List ℕ) : Type 0 where
   pub low : p < 16
   pub closed : (s.place p).there ≡ false
-  pub sheet : sheet_sound i ≡ Accepted
-  pub check : balance_rules amount_in (s.place p) (field i) 11 ≡ Check.Accepted
+  pub sheet : sheet_sound i ≡ Ok tt
+  pub check : balance_rules amount_in (s.place p) (field i) 11 ≡ Ok tt
   pub same_unit : same_bytes s.unit (bytes_in unit i) ≡ true
   pub short : length (bytes_in subject i) ≤ 32
   pub room : s.total + credits_in balance i < limit
 
 module _ (s : Seen) (p : ℕ) (i : List ℕ) where
-  pub opens : first_refusal (tests_open s p i) ≡ Accepted → Opens s p i
+  pub opens : first_refusal (tests_open s p i) ≡ Ok tt → Opens s p i
   unfolding tests_open
   opens h =
       let t = passed (tests_open s p i) h in
@@ -132,13 +128,13 @@ module _ (s : Seen) (p : ℕ) (i : List ℕ) where
 pub record Acts (s : Seen) (p o : ℕ) (i : List ℕ) : Type 0 where
   pub low : p < 16
   pub here : (s.place p).there ≡ true
-  pub sheet : sheet_sound i ≡ Accepted
+  pub sheet : sheet_sound i ≡ Ok tt
   pub operation : acts o ≡ true
-  pub check : balance_rules amount_in (s.place p) (field i) o ≡ Check.Accepted
-  pub after_check_lem : after_check (doing o) s p (credits_in amount i) ≡ Accepted
+  pub check : balance_rules amount_in (s.place p) (field i) o ≡ Ok tt
+  pub after_check_lem : after_check (doing o) s p (credits_in amount i) ≡ Ok tt
 
 module _ (s : Seen) (p o : ℕ) (i : List ℕ) where
-  pub acts_so : first_refusal (tests_act s p o i) ≡ Accepted → Acts s p o i
+  pub acts_so : first_refusal (tests_act s p o i) ≡ Ok tt → Acts s p o i
   unfolding tests_act
   acts_so h =
       let t = passed (tests_act s p o i) h in
@@ -161,11 +157,11 @@ pub record Begins (s : Seen) (f g t : ℕ) (i : List ℕ) : Type 0 where
   pub free : s.busy t ≡ false
   pub from_here : (s.place f).there ≡ true
   pub to_here : (s.place g).there ≡ true
-  pub sheet : sheet_sound i ≡ Accepted
-  pub check : balance_rules amount_in (s.place f) (sent_to s g i) 15 ≡ Check.Accepted
+  pub sheet : sheet_sound i ≡ Ok tt
+  pub check : balance_rules amount_in (s.place f) (sent_to s g i) 15 ≡ Ok tt
 
 module _ (s : Seen) (f g t : ℕ) (i : List ℕ) where
-  pub begins : first_refusal (tests_begin s f g t i) ≡ Accepted → Begins s f g t i
+  pub begins : first_refusal (tests_begin s f g t i) ≡ Ok tt → Begins s f g t i
   unfolding tests_begin
   begins h =
       let z = passed (tests_begin s f g t i) h in
@@ -190,7 +186,7 @@ pub record Finishes (s : Seen) (t : ℕ) : Type 0 where
   pub moving : s.busy t ≡ true
 
 module _ (s : Seen) (t : ℕ) where
-  pub finishes : first_refusal (tests_finish s t) ≡ Accepted → Finishes s t
+  pub finishes : first_refusal (tests_finish s t) ≡ Ok tt → Finishes s t
   unfolding tests_finish
   finishes h =
       let z = passed (tests_finish s t) h in
@@ -199,7 +195,7 @@ module _ (s : Seen) (t : ℕ) where
         moving = not-false (s.busy t) (unmet (not (s.busy t)) Idle z.1.0);
       }
 
-  pub finished : Finishes s t → first_refusal (tests_finish s t) ≡ Accepted
+  pub finished : Finishes s t → first_refusal (tests_finish s t) ≡ Ok tt
   unfolding tests_finish
   finished f =
       pass (tests_finish s t)

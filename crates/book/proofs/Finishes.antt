@@ -15,11 +15,11 @@ use Rattle.book.specs.Plain.{Plain, plain_answer}
 use Rattle.book.specs.Claim.{route, turned, cell, shown, cell_at}
 use Rattle.book.specs.declared.Transfer.{Transfer}
 use Rattle.book.specs.declared.Book.{Book}
-use Rattle.book.specs.declared.error.BookOutcome.TheVariants.{Accepted}
 use Rattle.book.proofs.Tables.{altered_all, altered_map, altered_is}
 use Rattle.book.proofs.Facts.{Finishes, finishes, finished}
 use Rattle.book.proofs.Views.{PlaceSet, TransferSet, same_transfers, same_unit, same_places, unit_same, record_set, good_place, good_transfer, transfer_gone, home, home_open, transfer_raw, transfer_in, open_lt, pending_lt, passes_28, total_place, total_transfer, coming_same, coming_transfer, coming, toward, toward_none, toward_hit, toward_miss}
 use Rattle.book.proofs.Invariant.{Inv, Kept, credited, holding, place_is, plain_is, name_is, whole_is, credits_whole}
+use Rattle.std.specs.Prelude.{Ok}
 
 -- a transfer's end, at the place where its fate has it; k: the fate of transfer t, which alone may turn by this step
 module _ (b : Book) (l : Plain) (t : ℕ) (d d' : ℕ → Bool) (k : Bool) (fate : d t ≡ k) (agree : (s : ℕ) → s ≢ t → d' s ≡ d s)
@@ -119,7 +119,7 @@ turned_at k d t = rw (eq-eqb t t refl)
 turned_off : (k : Bool) (d : ℕ → Bool) (t s : ℕ) → s ≢ t → d s ≡ cond (eqb s t) k (d s)
 turned_off k d t s x = rw (ne_eqb s t x)
 
-pub kept_finish : (b : Book) (l : Plain) (t : ℕ) (d : ℕ → Bool) → Inv (turned (way (Finish t)) d) b l → first_refusal (tests_finish (seen b) t) ≡ Accepted
+pub kept_finish : (b : Book) (l : Plain) (t : ℕ) (d : ℕ → Bool) → Inv (turned (way (Finish t)) d) b l → first_refusal (tests_finish (seen b) t) ≡ Ok tt
     → Kept d b l (Finish t)
 unfolding ended seen plain_answer
 kept_finish b l t d v z =
@@ -127,7 +127,7 @@ kept_finish b l t d v z =
     let u = ends b l t (turned (way (Finish t)) d) d false (turned_at false d t) (turned_off false d t) v f.low f.moving in
     record { inv = u.inv; plain = λ _. refl; unit = u.unit; moved = omega (arith, u.same_total); routes = u.routes }
 
-pub kept_cancel : (b : Book) (l : Plain) (t : ℕ) (d : ℕ → Bool) → Inv (turned (way (Cancel t)) d) b l → first_refusal (tests_finish (seen b) t) ≡ Accepted
+pub kept_cancel : (b : Book) (l : Plain) (t : ℕ) (d : ℕ → Bool) → Inv (turned (way (Cancel t)) d) b l → first_refusal (tests_finish (seen b) t) ≡ Ok tt
     → Kept d b l (Cancel t)
 unfolding ended seen plain_answer
 kept_cancel b l t d v z =
@@ -137,7 +137,7 @@ kept_cancel b l t d v z =
 
 -- the finish of a transfer under way would be accepted, and so would its cancel
 pub finishable : (d : ℕ → Bool) (b : Book) (l : Plain) → Inv d b l → (t : ℕ) → bit b.pending t ≡ 1
-    → (answer b (Finish t) ≡ Accepted) × (answer b (Cancel t) ≡ Accepted)
+    → (answer b (Finish t) ≡ Ok tt) × (answer b (Cancel t) ≡ Ok tt)
 unfolding answer seen
 finishable d b l v t h =
     let p = finished (seen b) t (record { low = pending_lt b v.good.shape t h; moving = ap is_some (transfer_in b t h) }) in

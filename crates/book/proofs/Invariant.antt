@@ -15,10 +15,10 @@ use Rattle.book.specs.Plain.{Holding, Plain, stock, plain_total, plain_answer, p
 use Rattle.book.specs.Claim.{route, noted, left_out, cell, shown, cell_at}
 use Rattle.book.specs.declared.Place.{Place}
 use Rattle.book.specs.declared.Book.{Book}
-use Rattle.book.specs.declared.error.BookOutcome.TheVariants.{Accepted}
 use Rattle.book.proofs.Tables.{Altered, altered_map, altered_all, sum_altered}
 use Rattle.book.proofs.Formed.{Whole}
 use Rattle.book.proofs.Views.{Good, good_place, total_place, PlaceSet, record_set, same_transfers, place_raw, coming, coming_same}
+use Rattle.std.specs.Prelude.{Ok}
 
 -- a place of the plain book, with n credits
 abbrev pub holding : Holding → ℕ → Option Holding
@@ -39,7 +39,7 @@ pub record Inv (d : ℕ → Bool) (b : Book) (l : Plain) : Type 0 where
 -- what an accepted step keeps, where d are the fates after it
 pub record Kept (d : ℕ → Bool) (b : Book) (l : Plain) (s : Step) : Type 0 where
   pub inv : Inv d (effect b s) (cond (left_out (way s) d) l (plain_effect l s))
-  pub plain : left_out (way s) d ≡ false → plain_answer (name_bytes b.unit) l s ≡ Accepted
+  pub plain : left_out (way s) d ≡ false → plain_answer (name_bytes b.unit) l s ≡ Ok tt
   pub unit : (effect b s).unit ≡ b.unit
   pub moved : total (effect b s) + takes s ≡ total b + issues s
   pub routes : (q : ℕ) → route (transfer_at (effect b s) q) ≡ noted (way s) (λ t. route (transfer_at b t)) q

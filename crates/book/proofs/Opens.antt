@@ -13,7 +13,6 @@ use Rattle.book.specs.Plain.{Holding, Plain, stock, plain_total, plain_seen, pla
 use Rattle.book.specs.Claim.{route, shown}
 use Rattle.book.specs.declared.Place.{Place}
 use Rattle.book.specs.declared.Book.{Book}
-use Rattle.book.specs.declared.error.BookOutcome.TheVariants.{Accepted}
 use Rattle.book.proofs.Tables.{Altered}
 use Rattle.book.proofs.Names.{name_bytes_lem, name_ok_lem}
 use Rattle.book.proofs.Rows.{create_subject}
@@ -21,8 +20,9 @@ use Rattle.book.proofs.Facts.{follow, same, Opens, opens}
 use Rattle.book.proofs.Formed.{whole}
 use Rattle.book.proofs.Views.{PlaceSet, same_transfers, same_unit, opened_set, good_place, total_place, coming_closed, coming}
 use Rattle.book.proofs.Invariant.{Inv, Kept, credited, holding, view_there, is_none, plain_put_lem, plain_total_lem, matches_place, credits_whole}
+use Rattle.std.specs.Prelude.{Ok}
 
-pub kept_open : (b : Book) (l : Plain) (p : ℕ) (i : List ℕ) (d : ℕ → Bool) → Inv d b l → first_refusal (tests_open (seen b) p i) ≡ Accepted
+pub kept_open : (b : Book) (l : Plain) (p : ℕ) (i : List ℕ) (d : ℕ → Bool) → Inv d b l → first_refusal (tests_open (seen b) p i) ≡ Ok tt
     → Kept d b l (Open p i)
 unfolding seen plain_seen plain_answer tests_open blank_place
 kept_open b l p i d v t =

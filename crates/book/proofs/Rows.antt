@@ -11,36 +11,33 @@ use borrow.Author.Tests.{eqb-true, eqb-false}
 use Rattle.amount.specs.declared.Amount.{Amount}
 use Rattle.amount.proofs.Halves.{val_halves}
 use Rattle.sheet.specs.Fields.{Field, absent, text, figure, other, field, Sight, subject, amount, to_subject, authorized_by}
+use Rattle.registry.proofs.Tests.{refused_never}
 use Rattle.registry.specs.Readers.{amount_in, amount_of, read_amount, text_in, bytes_of}
 use Rattle.registry.specs.Tests.{state_there, state_absent, Test, first, born, in_text, among}
-use Rattle.registry.specs.declared.error.ProfileError.{ProfileError}
 use Rattle.registry.specs.declared.error.ProfileError.TheVariants.{Empty}
-use Rattle.registry.specs.declared.error.Outcome.{Outcome}
-use Rattle.registry.specs.declared.error.Outcome.TheVariants.{Accepted, Refused}
+use Rattle.registry.specs.Refusals.{Outcome}
 use Rattle.profiles.specs.Balance.{balance_rules, debited, credited}
 use Rattle.book.specs.Places.{place_view, closed_view}
 use Rattle.book.proofs.Accepted.{Within, then_both, debit_accepted, debit_accepts, amount_in_whole}
 use Rattle.book.specs.Book.{credits}
 use Rattle.book.specs.Steps.{adds, acts, Doing, Issuing, Taking, doing, bytes_in}
-
-pub refused_never : {A : Type 0} (e : ProfileError) → Refused e ≡ Accepted → A
-refused_never e h = let z : ◌≡◌ {A = ℕ} 0 1 = cc in absurd (omega arith)
+use Rattle.std.specs.Prelude.{Ok, Err}
 
 -- ---- create
 
-text_there : (n : ℕ) (f : Field) → text_in n f ≡ Accepted → 0 < length (bytes_of f)
+text_there : (n : ℕ) (f : Field) → text_in n f ≡ Ok tt → 0 < length (bytes_of f)
 unfolding text_in bytes_of
 text_there n absent h = refused_never _ h
 text_there n (text t) h = go (eqb (length t) 0) refl h
   where
-    go : (x : Bool) → eqb (length t) 0 ≡ x → cond x (Refused (Empty n)) Accepted ≡ Accepted → 0 < length t
+    go : (x : Bool) → eqb (length t) 0 ≡ x → cond x (Err (Empty n)) (Ok (tt {0})) ≡ Ok tt → 0 < length t
     go true e k = refused_never (Empty n) k
     go false e k = let z = eqb-false (length t) 0 e in omega arith
 text_there n (figure a) h = refused_never _ h
 text_there n other h = refused_never _ h
 
 -- an accepted create has a subject
-pub create_subject : (i : List ℕ) → balance_rules amount_in closed_view (field i) 11 ≡ Accepted → 0 < length (bytes_in subject i)
+pub create_subject : (i : List ℕ) → balance_rules amount_in closed_view (field i) 11 ≡ Ok tt → 0 < length (bytes_in subject i)
 unfolding balance_rules state_absent bytes_in
 create_subject i h = text_there subject (field i subject) (then_both (text_in subject (field i subject)) _ h).0
 
@@ -77,11 +74,11 @@ pub record Affords (b : Amount) (inp : ℕ → Field) (up : Bool) (rule : Sight 
   -- what it takes is held
   pub within : up ≡ false → credits (read_amount (amount_in amount (inp amount))) ≤ credits b
   -- a place that holds more accepts it too
-  pub more : (s u : List ℕ) (c : Amount) → c.scale ≡ 0 → credits b ≤ credits c → rule (place_view s u c) ≡ Accepted
+  pub more : (s u : List ℕ) (c : Amount) → c.scale ≡ 0 → credits b ≤ credits c → rule (place_view s u c) ≡ Ok tt
 
 module _ (s u : List ℕ) (b : Amount) (scaled : b.scale ≡ 0) (inp : ℕ → Field) where
   Row-affords : Bool → List Test → Type 0
-  Row-affords up ts = first amount_in (place_view s u b) inp ts ≡ Accepted → Affords b inp up (λ v. first amount_in v inp ts)
+  Row-affords up ts = first amount_in (place_view s u b) inp ts ≡ Ok tt → Affords b inp up (λ v. first amount_in v inp ts)
 
   -- 13 and 17: the balance isn't looked at
   adding : Row-affords true (born ∷ credited)
@@ -115,15 +112,15 @@ module _ (s u : List ℕ) (b : Amount) (scaled : b.scale ≡ 0) (inp : ℕ → F
       record { within = a.within; more = λ s' u' c z k. rw t.0 (a.more s' u' c z k) }
 
   Operation-affords : ℕ → Type 0
-  Operation-affords o = balance_rules amount_in (place_view s u b) inp o ≡ Accepted → Affords b inp (adds o) (λ v. balance_rules amount_in v inp o)
+  Operation-affords o = balance_rules amount_in (place_view s u b) inp o ≡ Ok tt → Affords b inp (adds o) (λ v. balance_rules amount_in v inp o)
 
-  pub act_affords : (o : ℕ) → acts o ≡ true → balance_rules amount_in (place_view s u b) inp o ≡ Accepted
+  pub act_affords : (o : ℕ) → acts o ≡ true → balance_rules amount_in (place_view s u b) inp o ≡ Ok tt
       → Affords b inp (adds o) (λ v. balance_rules amount_in v inp o)
   unfolding Operation-affords Row-affords acts adds balance_rules
   act_affords o k =
       among_all Operation-affords (12 ∷ 13 ∷ 14 ∷ 16 ∷ 17 ∷ 18 ∷ 19 ∷ [])
       (minting, (adding, (taking, (taking, (adding, (taking, (taking_with authorized_by, tt))))))) o k
 
-  pub transfer_affords : balance_rules amount_in (place_view s u b) inp 15 ≡ Accepted → Affords b inp false (λ v. balance_rules amount_in v inp 15)
+  pub transfer_affords : balance_rules amount_in (place_view s u b) inp 15 ≡ Ok tt → Affords b inp false (λ v. balance_rules amount_in v inp 15)
   unfolding Row-affords balance_rules
   transfer_affords = taking_with to_subject

@@ -16,14 +16,14 @@ use Rattle.book.specs.Claim.{keep, issued, taken, turned, cancelled, shown, cell
 use Rattle.book.specs.declared.Place.{Place}
 use Rattle.book.specs.declared.Transfer.{Transfer}
 use Rattle.book.specs.declared.Book.{Book}
-use Rattle.book.specs.declared.error.BookOutcome.{BookOutcome}
-use Rattle.book.specs.declared.error.BookOutcome.TheVariants.{Accepted, Refused}
+use Rattle.book.specs.Refusals.{BookOutcome}
 use Rattle.book.proofs.Tables.{sum_same, sum_zero, sum_altered}
 use Rattle.book.proofs.Facts.{accepted_tests}
 use Rattle.book.proofs.Formed.{formed}
 use Rattle.book.proofs.Views.{Shape, Good, passes_28, home, home_open, open_lt, toward, toward_none, toward_hit, toward_miss, coming, coming_closed}
 use Rattle.book.proofs.Invariant.{Inv, Kept, credited}
 use Rattle.book.proofs.Whole.{kept}
+use Rattle.std.specs.Prelude.{Ok, Err}
 
 -- ---- sums
 
@@ -101,7 +101,7 @@ module _ (b : Book) (s : Step) (x : Steady b) where
   abbrev its_fates : ℕ → Bool
   its_fates = turned (way s) (cancelled [])
 
-  its_kept : answer b s ≡ Accepted → Kept (cancelled []) b (plain_of its_fates b its_good) s
+  its_kept : answer b s ≡ Ok tt → Kept (cancelled []) b (plain_of its_fates b its_good) s
   its_kept h = kept b (plain_of its_fates b its_good) s (cancelled []) (has_plain its_fates b its_good (formed b x.formed).fits) h
 
   pub step_steady : Stepped b (next b s) (answer b s) s
@@ -109,13 +109,13 @@ module _ (b : Book) (s : Step) (x : Steady b) where
   step_steady = go (answer b s) refl
     where
       go : (o : BookOutcome) → answer b s ≡ o → Stepped b (next b s) (answer b s) s
-      go Accepted h =
+      go (Ok _) h =
           let k = its_kept h in
           rw h (record {
             steady = record { shape = k.inv.good.shape; formed = passes_28 (effect b s) k.inv.good k.inv.fits };
             moved = omega (arith, k.moved);
           })
-      go (Refused e) h = rw h (record { steady = x; moved = refl })
+      go (Err e) h = rw h (record { steady = x; moved = refl })
 
 -- document 02, request 1: "the sum over balances and credits under way is unchanged by it". Premise: the arrays and sets are of a book's size
 pub cancel_keeps_the_sum : (b : Book) (t : ℕ) → Shape b → total (next b (Cancel t)) ≡ total b
@@ -123,5 +123,5 @@ unfolding next
 cancel_keeps_the_sum b t x = go (answer b (Cancel t)) refl
   where
     go : (o : BookOutcome) → answer b (Cancel t) ≡ o → total (next b (Cancel t)) ≡ total b
-    go Accepted h = let k = its_kept b (Cancel t) (record { shape = x; formed = (accepted_tests b (Cancel t) h).0 }) h in rw h (omega (arith, k.moved))
-    go (Refused e) h = rw h
+    go (Ok _) h = let k = its_kept b (Cancel t) (record { shape = x; formed = (accepted_tests b (Cancel t) h).0 }) h in rw h (omega (arith, k.moved))
+    go (Err e) h = rw h

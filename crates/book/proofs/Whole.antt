@@ -24,8 +24,7 @@ use Rattle.book.specs.declared.Name.{Name}
 use Rattle.book.specs.declared.Book.{Book}
 use Rattle.book.specs.declared.error.BookError.{BookError}
 use Rattle.book.specs.declared.error.BookError.TheVariants.{Profile, LongName}
-use Rattle.book.specs.declared.error.BookOutcome.{BookOutcome}
-use Rattle.book.specs.declared.error.BookOutcome.TheVariants.{Accepted, Refused}
+use Rattle.book.specs.Refusals.{BookOutcome}
 use Rattle.book.proofs.Tables.{bit_lt, bit_same, bit_other, bit_high, bits_zero, entry_out, sum_zero, every_at}
 use Rattle.book.proofs.Names.{name_bytes_lem, name_ok_lem}
 use Rattle.book.proofs.Facts.{passed, unmet, accepted_tests}
@@ -37,14 +36,15 @@ use Rattle.book.proofs.Opens.{kept_open}
 use Rattle.book.proofs.Acts.{kept_act}
 use Rattle.book.proofs.Begins.{kept_begin}
 use Rattle.book.proofs.Finishes.{kept_finish, kept_cancel, finishable}
+use Rattle.std.specs.Prelude.{Ok, Err}
 
 -- ---- one step: a case for each kind
 
 -- d: the fates after it
-pub kept : (b : Book) (l : Plain) (s : Step) (d : ℕ → Bool) → Inv (turned (way s) d) b l → answer b s ≡ Accepted → Kept d b l s
+pub kept : (b : Book) (l : Plain) (s : Step) (d : ℕ → Bool) → Inv (turned (way s) d) b l → answer b s ≡ Ok tt → Kept d b l s
 kept b l s d v h = go s v (accepted_tests b s h).1
   where
-    go : (s : Step) → Inv (turned (way s) d) b l → first_refusal (tests_of (seen b) s) ≡ Accepted → Kept d b l s
+    go : (s : Step) → Inv (turned (way s) d) b l → first_refusal (tests_of (seen b) s) ≡ Ok tt → Kept d b l s
     go (Open p i) w t = kept_open b l p i d w t
     go (Act p o i) w t = kept_act b l p o i d w t
     go (Begin f g n i) w t = kept_begin b l f g n i d w t
@@ -53,15 +53,15 @@ kept b l s d v h = go s v (accepted_tests b s h).1
 
 -- ---- every list
 
-pub next_accepted : (b : Book) (s : Step) → answer b s ≡ Accepted → next b s ≡ effect b s
+pub next_accepted : (b : Book) (s : Step) → answer b s ≡ Ok tt → next b s ≡ effect b s
 unfolding next
 next_accepted b s h = rw h
 
-next_refused : (b : Book) (s : Step) {e : BookError} → answer b s ≡ Refused e → next b s ≡ b
+next_refused : (b : Book) (s : Step) {e : BookError} → answer b s ≡ Err e → next b s ≡ b
 unfolding next
 next_refused b s h = rw h
 
-plain_accepted : (u : List ℕ) (l : Plain) (s : Step) → plain_answer u l s ≡ Accepted → plain_next u l s ≡ plain_effect l s
+plain_accepted : (u : List ℕ) (l : Plain) (s : Step) → plain_answer u l s ≡ Ok tt → plain_next u l s ≡ plain_effect l s
 unfolding plain_next
 plain_accepted u l s h = rw h
 
@@ -76,12 +76,12 @@ record Lists (u : List ℕ) (b : Book) (l : Plain) (ss : List Step) : Type 0 whe
   routes : routes_of (run b ss) ≡ routes_under_way (routes_of b) (accepted_of b ss)
 
 -- the plain book, fed a step or not
-fed_run : (x : Bool) (u : List ℕ) (l : Plain) (s : Step) (a : List Step) (P : Plain → Type 0) → (x ≡ false → plain_answer u l s ≡ Accepted)
+fed_run : (x : Bool) (u : List ℕ) (l : Plain) (s : Step) (a : List Step) (P : Plain → Type 0) → (x ≡ false → plain_answer u l s ≡ Ok tt)
     → P (plain_run u (cond x l (plain_effect l s)) a) → P (plain_run u l (cond x a (s ∷ a)))
 fed_run true u l s a P h z = z
 fed_run false u l s a P h z = subst (λ (m : Plain). P (plain_run u m a)) (sym (plain_accepted u l s (h refl))) z
 
-fed_accepts : (x : Bool) (u : List ℕ) (l : Plain) (s : Step) (a : List Step) → (x ≡ false → plain_answer u l s ≡ Accepted)
+fed_accepts : (x : Bool) (u : List ℕ) (l : Plain) (s : Step) (a : List Step) → (x ≡ false → plain_answer u l s ≡ Ok tt)
     → PlainAccepts u (cond x l (plain_effect l s)) a → PlainAccepts u l (cond x a (s ∷ a))
 fed_accepts true u l s a h z = z
 fed_accepts false u l s a h z = (h refl, subst (λ (m : Plain). PlainAccepts u m a) (sym (plain_accepted u l s (h refl))) z)
@@ -96,7 +96,7 @@ lists (s ∷ ss) u b l z v = go (answer b s) refl (λ m y w. lists ss u (next b 
 
     go : (x : BookOutcome) → answer b s ≡ x → ((m : Plain) → name_bytes (next b s).unit ≡ u → Inv (cancelled a) (next b s) m → Lists u (next b s) m ss)
         → Lists u b l (s ∷ ss)
-    go (Refused r) h rest =
+    go (Err r) h rest =
         let e : next b s ≡ b = next_refused b s h in
         let w : Inv (cancelled a) b l = rw h at v in
         let r = rest l (ap (λ (c : Book). name_bytes c.unit) e ∙ z) (subst (λ (c : Book). Inv (cancelled a) c l) (sym e) w) in
@@ -106,11 +106,11 @@ lists (s ∷ ss) u b l z v = go (answer b s) refl (λ m y w. lists ss u (next b 
           moved = rw h (omega (arith, r.moved, ap total e));
           routes = rw h (r.routes ∙ ap (λ (c : Book). routes_under_way (routes_of c) a) e);
         }
-    go Accepted h rest =
+    go (Ok _) h rest =
         let k = kept b l s (cancelled a) (rw h at v) h in
         let e : next b s ≡ effect b s = next_accepted b s h in
         let x : Bool = left_out (way s) (cancelled a) in
-        let p : x ≡ false → plain_answer u l s ≡ Accepted = λ q. subst (λ (n : List ℕ). plain_answer n l s ≡ Accepted) z (k.plain q) in
+        let p : x ≡ false → plain_answer u l s ≡ Ok tt = λ q. subst (λ (n : List ℕ). plain_answer n l s ≡ Ok tt) z (k.plain q) in
         let r = rest (cond x l (plain_effect l s)) (ap (λ (c : Book). name_bytes c.unit) e ∙ ap name_bytes k.unit ∙ z)
         (subst (λ (c : Book). Inv (cancelled a) c (cond x l (plain_effect l s))) (sym e) k.inv) in
         record {
@@ -143,7 +143,7 @@ blank_shape n =
           };
     }
 
-module _ (u : List ℕ) (h : start_answer u ≡ Accepted) where
+module _ (u : List ℕ) (h : start_answer u ≡ Ok tt) where
   fresh : start_book u ≡ set_unit blank_book (name_of u)
   unfolding start_book
   fresh = rw h
@@ -243,7 +243,7 @@ settle [] b l v o =
     idle : (t : ℕ) → bit b.pending t ≡ 0
     idle t = sym (o t) ∙ count_nil t
 settle (t ∷ ts) b l v o =
-    let h : answer b (Finish t) ≡ Accepted = (finishable (cancelled []) b l v t (first_pending b t ts o)).0 in
+    let h : answer b (Finish t) ≡ Ok tt = (finishable (cancelled []) b l v t (first_pending b t ts o)).0 in
     let e : next b (Finish t) ≡ effect b (Finish t) = next_accepted b (Finish t) h in
     let k : Kept (cancelled []) b l (Finish t) = kept b l (Finish t) (cancelled []) (subst (λ (d : ℕ → Bool). Inv d b l) (sym (still false t refl)) v) h in
     let u : Settled (next b (Finish t)) l ts = settle ts (next b (Finish t)) l (rw e k.inv) (rw e (rest_once b t ts o)) in
@@ -251,7 +251,7 @@ settle (t ∷ ts) b l v o =
 
 -- ---- the whole
 
-from_start : (u : List ℕ) → start_answer u ≡ Accepted → (ss : List Step) → Lists u (start_book u) empty_plain ss
+from_start : (u : List ℕ) → start_answer u ≡ Ok tt → (ss : List Step) → Lists u (start_book u) empty_plain ss
 from_start u h ss = lists ss u (start_book u) empty_plain (unit_fresh u h) (start u h _)
 
 pub demand3 : Claim
@@ -276,13 +276,9 @@ demand3 u h steps =
         }
 
 -- there is an order of finishing: the claim on orders is not empty
-pub some_order : (u : List ℕ) → start_answer u ≡ Accepted → (steps : List Step)
+pub some_order : (u : List ℕ) → start_answer u ≡ Ok tt → (steps : List Step)
     → EachOnce (run (start_book u) steps) (members (run (start_book u) steps).pending 8)
 some_order u h steps = an_order (run (start_book u) steps) (from_start u h steps).inv.good.shape
-
--- every book of a run has a book's shape
-pub in_shape : (u : List ℕ) → start_answer u ≡ Accepted → (steps : List Step) → Shape (run (start_book u) steps)
-in_shape u h steps = (from_start u h steps).inv.good.shape
 
 -- ---- lists without cancels: the plain book is fed all the accepted steps, as document 01 says
 

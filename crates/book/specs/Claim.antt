@@ -1,5 +1,5 @@
 -- DEMAND 3: one claim over every accepted start and every list of steps. Each field quotes the sentence that it states.
-use Rattle.std.specs.Prelude.{◌≡◌, Bool, true, false, cond, List, [], ◌∷◌, map, ℕ, ◌+◌, ◌<◌, eqb, take}
+use Rattle.std.specs.Prelude.{◌≡◌, Bool, true, false, cond, List, [], ◌∷◌, map, ℕ, ◌+◌, ◌<◌, eqb, take, Ok, Err}
 use Rattle.std.proofs.Math.Option.{Option, some, none}
 use Rattle.book.specs.Sets.{bit, occurrences}
 use Rattle.book.specs.Book.{credits, name_bytes, is_well_formed, place_at, transfer_at, total}
@@ -8,8 +8,7 @@ use Rattle.book.specs.Plain.{Holding, Plain, empty_plain, plain_answer, plain_ne
 use Rattle.book.specs.declared.Place.{Place}
 use Rattle.book.specs.declared.Transfer.{Transfer}
 use Rattle.book.specs.declared.Book.{Book}
-use Rattle.book.specs.declared.error.BookOutcome.{BookOutcome}
-use Rattle.book.specs.declared.error.BookOutcome.TheVariants.{Accepted, Refused}
+use Rattle.book.specs.Refusals.{BookOutcome}
 
 -- ---- a list of steps
 
@@ -19,8 +18,8 @@ run b [] = b
 run b (s ∷ ss) = run (next b s) ss
 
 abbrev pub keep : BookOutcome → Step → List Step → List Step
-keep Accepted s ss = s ∷ ss
-keep (Refused e) s ss = ss
+keep (Ok _) s ss = s ∷ ss
+keep (Err e) s ss = ss
 
 -- the accepted steps of a list, in their order
 abbrev pub accepted_of : Book → List Step → List Step
@@ -29,7 +28,7 @@ accepted_of b (s ∷ ss) = keep (answer b s) s (accepted_of (next b s) ss)
 
 abbrev pub AllAccepted : Book → List Step → Type 0
 AllAccepted b [] = Unit {0}
-AllAccepted b (s ∷ ss) = (answer b s ≡ Accepted) × AllAccepted (next b s) ss
+AllAccepted b (s ∷ ss) = (answer b s ≡ Ok tt) × AllAccepted (next b s) ss
 
 -- ---- what accepted steps issued, took and left under way
 
@@ -88,7 +87,7 @@ plain_run u l (s ∷ ss) = plain_run u (plain_next u l s) ss
 
 abbrev pub PlainAccepts : List ℕ → Plain → List Step → Type 0
 PlainAccepts u l [] = Unit {0}
-PlainAccepts u l (s ∷ ss) = (plain_answer u l s ≡ Accepted) × PlainAccepts u (plain_next u l s) ss
+PlainAccepts u l (s ∷ ss) = (plain_answer u l s ≡ Ok tt) × PlainAccepts u (plain_next u l s) ss
 
 -- "Compared are the open places, their subjects and balances": nothing where a place is closed
 abbrev pub cell : Place → Holding
@@ -115,9 +114,9 @@ pub record Sound (b : Book) (a : List Step) : Type 0 where
   -- finish, has ended; each one's credits are its begin's amount" (document 01); a cancel ends one as well
   pub under_way : (t : ℕ) → route (transfer_at b t) ≡ routes_under_way (λ _. none) a t
   -- "the finish of any transfer under way would be accepted"
-  pub finishable : (t : ℕ) → bit b.pending t ≡ 1 → answer b (Finish t) ≡ Accepted
+  pub finishable : (t : ℕ) → bit b.pending t ≡ 1 → answer b (Finish t) ≡ Ok tt
   -- "after every step the finish and the cancel of any transfer under way would be accepted" (document 02, request 2)
-  pub cancellable : (t : ℕ) → bit b.pending t ≡ 1 → answer b (Cancel t) ≡ Accepted
+  pub cancellable : (t : ℕ) → bit b.pending t ≡ 1 → answer b (Cancel t) ≡ Ok tt
   -- "Each step tests 28 first; no step from an accepted start meets it" (document 01)
   pub well_formed : is_well_formed b ≡ true
 
@@ -144,4 +143,4 @@ pub record Demand3 (u : List ℕ) (steps : List Step) : Type 0 where
 -- "For every list of these steps (open, act, begin, finish, refused ones among them) from a fresh book, however transfers overlap", with
 -- cancels among them: "A fresh book is one an accepted start gave" (document 01)
 abbrev pub Claim : Type 0
-Claim = (u : List ℕ) → start_answer u ≡ Accepted → (steps : List Step) → Demand3 u steps
+Claim = (u : List ℕ) → start_answer u ≡ Ok tt → (steps : List Step) → Demand3 u steps

@@ -7,7 +7,7 @@ use Rattle.book.specs.Places.{place_view, closed_view}
 use Rattle.sheet.specs.Walk.{sum}
 use Rattle.book.specs.Book.{whole_amount}
 use Rattle.book.specs.Steps.{Step, Open, Act, Begin, Finish, Cancel, credits_in, bytes_in, changed, Seen, tests_of, first_refusal, after, Way, Begins, Ends, Stays, way}
-use Rattle.book.specs.declared.error.BookOutcome.{BookOutcome}
+use Rattle.book.specs.Refusals.{BookOutcome}
 
 -- a subject and what it holds: a place as it is compared
 pub record Holding : Type 0 where

@@ -3,8 +3,11 @@ use Rattle.registry.specs.Refusals as profile
 use Rattle.registry.specs.declared.error.Answer.{Answer}
 use Rattle.book.specs.declared.error.BookError.{BookError}
 use Rattle.book.specs.declared.error.BookError.TheVariants.{Profile, UnderWay, OffTheBook, Idle, Itself, TooMuch, OtherUnit, LongName, BadBook}
-use Rattle.book.specs.declared.error.BookOutcome.{BookOutcome}
-use Rattle.book.specs.declared.error.BookOutcome.TheVariants.{Accepted, Refused}
+use Rattle.std.specs.Prelude.{Result, Ok, Err}
+
+-- what a step says
+abbrev pub BookOutcome : Type 0
+BookOutcome = Result (Unit {0}) BookError
 
 -- detail: the name of the text that is too long; 0 unless named
 abbrev pub book_refusal_of : BookError → Answer
@@ -20,5 +23,5 @@ book_refusal_of BadBook = profile.numbered 28 0
 
 -- 0 is accepted; a step writes no sheet, so its length is 0
 abbrev pub book_answer_of : BookOutcome → Answer
-book_answer_of Accepted = profile.numbered 0 0
-book_answer_of (Refused e) = book_refusal_of e
+book_answer_of (Ok _) = profile.numbered 0 0
+book_answer_of (Err e) = book_refusal_of e

@@ -1,16 +1,15 @@
 -- Document 01, section "Book", and document 02, request 1: the steps, which carry their sheets as bytes. The tests in their order, and what an
 -- accepted step does.
-use Rattle.std.specs.Prelude.{Bool, true, false, not, cond, ◌&&◌, ◌||◌, List, [], ◌∷◌, ℕ, ◌+◌, ◌-◌, eqb, leb, ltb, length}
+use Rattle.std.specs.Prelude.{Bool, true, false, not, cond, ◌&&◌, ◌||◌, List, [], ◌∷◌, ℕ, ◌+◌, ◌-◌, eqb, leb, ltb, length, Ok, Err}
 use Rattle.std.proofs.Math.Option.{Option, some, none}
 use Rattle.amount.specs.Numbers.{limit}
-use Rattle.sheet.specs.Sheet.{verdict_of}
+use Rattle.sheet.specs.Sheet.{sound_as}
 use Rattle.sheet.specs.Fields.{Field, field, Sight, subject, unit, balance, amount, to_subject}
 use Rattle.sheet.specs.declared.Shape.TheVariants.{Input}
 use Rattle.registry.specs.Readers.{amount_in, bytes_of, read_amount}
 use Rattle.registry.specs.Tests.{among}
 use Rattle.registry.specs.Call.{input_sound}
-use Rattle.registry.specs.declared.error.Outcome.{Outcome}
-use Rattle.registry.specs.declared.error.Outcome.TheVariants as Check
+use Rattle.registry.specs.Refusals.{Outcome}
 use Rattle.registry.specs.declared.error.ProfileError.TheVariants.{UnknownOperation, Born, Unborn, Empty}
 use Rattle.profiles.specs.Balance.{balance_rules}
 use Rattle.book.specs.Places.{place_view, closed_view, put_field}
@@ -19,8 +18,7 @@ use Rattle.book.specs.declared.Place.{Place}
 use Rattle.book.specs.declared.Book.{Book}
 use Rattle.book.specs.declared.error.BookError.{BookError}
 use Rattle.book.specs.declared.error.BookError.TheVariants.{Profile, UnderWay, OffTheBook, Idle, Itself, TooMuch, OtherUnit, LongName, BadBook}
-use Rattle.book.specs.declared.error.BookOutcome.{BookOutcome}
-use Rattle.book.specs.declared.error.BookOutcome.TheVariants.{Accepted, Refused}
+use Rattle.book.specs.Refusals.{BookOutcome}
 
 pub data Step : Type 0 where
   Open : (place : ℕ) (sheet : List ℕ) → Step
@@ -61,18 +59,18 @@ changed o held v = cond (adds o) (held + v) (held - v)
 -- ---- tests
 
 abbrev pub refused_if : Bool → BookError → BookOutcome
-refused_if t e = cond t (Refused e) Accepted
+refused_if t e = cond t (Err e) (Ok tt)
 
 -- what a profile says
 abbrev pub said : Outcome → BookOutcome
-said Check.Accepted = Accepted
-said (Check.Refused e) = Refused (Profile e)
+said (Ok _) = Ok tt
+said (Err e) = Err (Profile e)
 
 -- the first test that is not passed
 abbrev pub first_refusal : List BookOutcome → BookOutcome
-first_refusal [] = Accepted
-first_refusal (Accepted ∷ ts) = first_refusal ts
-first_refusal (Refused e ∷ ts) = Refused e
+first_refusal [] = Ok tt
+first_refusal (Ok _ ∷ ts) = first_refusal ts
+first_refusal (Err e ∷ ts) = Err e
 
 abbrev pub same_bytes : List ℕ → List ℕ → Bool
 same_bytes [] [] = true
@@ -90,7 +88,7 @@ pub record Seen : Type 0 where
 
 -- 2
 abbrev pub sheet_sound : List ℕ → BookOutcome
-sheet_sound i = said (input_sound (verdict_of Input i))
+sheet_sound i = said (input_sound (sound_as Input i))
 
 -- the balance profile's check of an operation, at place p
 abbrev pub check_at : Seen → ℕ → (ℕ → Field) → ℕ → BookOutcome
@@ -115,7 +113,7 @@ tests_open s p i =
 -- after the check of an act of v at place p: 25, which only what issues can meet
 abbrev pub after_check : Doing → Seen → ℕ → ℕ → BookOutcome
 after_check Issuing s p v = refused_if (leb limit (s.total + v)) TooMuch
-after_check Taking s p v = Accepted
+after_check Taking s p v = Ok tt
 
 -- act: 22, 6, 2, 4 unless 12, 13, 14, 16, 17, 18, 19; check; 25
 unfoldable pub tests_act : Seen → ℕ → ℕ → List ℕ → List BookOutcome
@@ -204,8 +202,8 @@ effect b (Cancel t) = landed b t (transfer_record b t).from
 
 -- a refused step changes nothing
 abbrev pub after : {A : Type 0} → BookOutcome → A → A → A
-after Accepted new old = new
-after (Refused e) new old = old
+after (Ok _) new old = new
+after (Err e) new old = old
 
 unfoldable pub next : Book → Step → Book
 next b s = after (answer b s) (effect b s) b

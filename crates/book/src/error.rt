@@ -1,13 +1,11 @@
 // Why a step of the book refuses: a profile's refusal, or one of document 01's 21 to 28.
 ghost use Rattle.std.specs.Prelude.{◌≡◌};
-ghost use Rattle.registry.specs.Refusals.{numbered};
 ghost use Rattle.book.specs.Refusals.{book_refusal_of, book_answer_of};
+ghost use Rattle.book.specs.declared.error.BookError.TheVariants.{Profile};
 
-use amount::Amount;
-use registry::error;
 use registry::error::{Answer, ProfileError};
 
-// Document 01's number of each.
+// Document 01's number of each, which C gets.
 pub const UNDER_WAY: u8 = 21;
 
 pub const OFF_THE_BOOK: u8 = 22;
@@ -37,49 +35,40 @@ pub enum BookError {
     BadBook,
 }
 
-// What a step says.
-#[derive(Clone, Copy)]
-pub enum BookOutcome {
-    Accepted,
-    Refused(BookError),
-}
+impl From<ProfileError> for BookError {
+    ghost from_gives = { λ e b. b ≡ Profile e };
 
-// The answer of a step.
-pub fn answer_of(o: BookOutcome) -> Answer
-    ensures { result ≡ book_answer_of o }
-{
-    match o {
-        BookOutcome::Accepted => plain(0, 0),
-        BookOutcome::Refused(e) => refusal(e),
-    }
-}
-
-// An answer with no amounts: nothing is short, and a step writes no sheet.
-fn plain(number: u8, detail: u8) -> Answer
-    ensures { result ≡ numbered number detail }
-{
-    Answer {
-        number,
-        detail,
-        available: Amount::ZERO,
-        requested: Amount::ZERO,
-        length: 0,
+    fn from(e: ProfileError) -> BookError {
+        BookError::Profile(e)
     }
 }
 
 // The number, detail and amounts of a refusal.
-fn refusal(e: BookError) -> Answer
-    ensures { result ≡ book_refusal_of e }
+impl From<BookError> for Answer {
+    ghost from_gives = { λ e a. a ≡ book_refusal_of e };
+
+    fn from(e: BookError) -> Answer {
+        match e {
+            BookError::Profile(p) => Answer::from(p),
+            BookError::UnderWay => Answer::numbered(UNDER_WAY, 0),
+            BookError::OffTheBook => Answer::numbered(OFF_THE_BOOK, 0),
+            BookError::Idle => Answer::numbered(IDLE, 0),
+            BookError::Itself => Answer::numbered(ITSELF, 0),
+            BookError::TooMuch => Answer::numbered(TOO_MUCH, 0),
+            BookError::OtherUnit => Answer::numbered(OTHER_UNIT, 0),
+            BookError::LongName(name) => Answer::numbered(LONG_NAME, name),
+            BookError::BadBook => Answer::numbered(BAD_BOOK, 0),
+        }
+    }
+}
+
+// The answer of a step, which writes no sheet. registry's `answer_of` is of other refusals, by another definition; how a `Result` is
+// converted this crate may not say.
+pub fn answer_of(o: Result<(), BookError>) -> Answer
+    ensures { result ≡ book_answer_of o }
 {
-    match e {
-        BookError::Profile(p) => error::refusal(p),
-        BookError::UnderWay => plain(UNDER_WAY, 0),
-        BookError::OffTheBook => plain(OFF_THE_BOOK, 0),
-        BookError::Idle => plain(IDLE, 0),
-        BookError::Itself => plain(ITSELF, 0),
-        BookError::TooMuch => plain(TOO_MUCH, 0),
-        BookError::OtherUnit => plain(OTHER_UNIT, 0),
-        BookError::LongName(name) => plain(LONG_NAME, name),
-        BookError::BadBook => plain(BAD_BOOK, 0),
+    match o {
+        Ok(()) => Answer::numbered(0, 0),
+        Err(e) => Answer::from(e),
     }
 }

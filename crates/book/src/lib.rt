@@ -2,6 +2,9 @@
 // Integers and arrays only: every pattern of bytes is a book, and test 28 says which are sound.
 #![tactic(auto)]
 
+ghost use Rattle.std.specs.Prelude.{◌≡◌, ◌≤◌, length};
+ghost use Rattle.book.specs.Book.{name_bytes};
+
 use amount::Amount;
 
 pub mod error;
@@ -19,6 +22,16 @@ pub const NAME_BYTES: usize = 32;
 pub struct Name {
     pub bytes: [u8; NAME_BYTES],
     pub len: u8,
+}
+
+impl Name {
+    // The text itself, whatever `len` says. amount's `Text` has the same for 257 bytes and a longer `len`: C gets both layouts.
+    pub fn as_bytes(&self) -> &[u8]
+        ensures text { result.now ≡ name_bytes self.now }
+        ensures short { length result.now ≤ 32 }
+    {
+        &self.bytes[..(self.len as usize).min(NAME_BYTES)]
+    }
 }
 
 #[repr(C)]

@@ -2,22 +2,25 @@
 // form), with each answer that is expected and, at a list's end, the book. Then the list goes through the run of a session.
 #![tactic(auto)]
 
-ghost use Rattle.std.specs.Prelude.{◌≡◌, ◌<◌, ◌≤◌, IfOk, length};
+ghost use Rattle.std.specs.Prelude.{◌<◌, IfSome, length};
 
 use amount::{Amount, Uint128};
-use book::{Book, Name, PLACES, Place, TRANSFERS, Transfer};
-use registry::error::Answer;
-use session::{MAX_STEPS, Run, running};
+use book::error::BAD_BOOK;
+use book::{Book, Name, Place, TRANSFERS, Transfer};
+use registry::error::{Answer, INSUFFICIENT_QUANTITY};
+use session::{Run, running};
 use std::io;
 use std::io::{BufWriter, Read, Write};
-use steps::{Step, Turn, View};
+use steps::Step;
+use tally::{Judge, Row, Tally};
 
 // The list is read up to here.
-const READ_BYTES: usize = 1572864;
+const READ_BYTES: u64 = 1572864;
 
-// The kinds of records. 1 to 5 are the steps, as in a session; those from 16 on are none.
-const START: u8 = 0;
+// An answer's number is 0 or a refusal's.
+const NUMBERS: usize = BAD_BOOK as usize + 1;
 
+// The kinds of steps, bytes as in a session.
 const OPEN: u8 = 1;
 
 const ACT: u8 = 2;
@@ -28,165 +31,89 @@ const FINISH: u8 = 4;
 
 const CANCEL: u8 = 5;
 
-const ALTER: u8 = 16;
-
-const LOOK: u8 = 17;
-
-const RUN: u8 = 18;
-
-// The largest number of a refusal.
-const LAST: u8 = 28;
-
-// The counts stand in pairs, equal and unequal: those of the numbers 0 to 28, and of the books; then the alterations, and
-// the altered books that met 28; then the runs, and the answers in them.
-const COUNTS: usize = 68;
-
-const BOOKS: usize = 29;
-
-const ALTERED: usize = 30;
-
-const BAD: usize = 31;
-
-const RUNS: usize = 32;
-
-const RUN_ANSWERS: usize = 33;
-
-// No record is so long.
-const NOWHERE: usize = 100000;
-
 // ---- records
 
-fn body(r: &[u8]) -> &[u8] {
-    sheet::part(r, 6, sheet::u16_at(r, 4) as usize)
-}
-
-// Where the expected answer stands.
-fn answer_at(r: &[u8]) -> usize
-    ensures { result ≤ 65541 }
-{
-    6 + sheet::u16_at(r, 4) as usize
-}
-
-// The length of the record that the bytes start with; 0 where they start with none.
-fn size(r: &[u8]) -> usize
-    ensures { result ≤ length r.now }
-{
-    let at = answer_at(r);
-    let kind = sheet::byte(r, 0);
-    if RUN < kind {
-        return 0;
-    }
-    let mut end = at;
-    if kind < ALTER {
-        if LAST < sheet::byte(r, at) {
-            return 0;
-        }
-        end = if sheet::byte(r, at) == 15 {
-            at + 34
-        } else {
-            at + 2
-        };
-    }
-    if kind == RUN {
-        end = at + 2 + sheet::u16_at(r, at) as usize;
-    }
-    if r.len() < end {
-        return 0;
-    }
-    end
-}
-
-// The step of a record, without its sheet. Another kind is none.
 #[derive(Clone, Copy)]
-enum Entry {
-    Step(Step),
-    NoStep,
+enum Kind {
+    Start,
+    Step,
+    Alter,
+    Look,
+    Run,
 }
 
-fn step_of(r: &[u8]) -> Entry {
-    let kind = sheet::byte(r, 0);
-    let a = sheet::byte(r, 1);
-    let b = sheet::byte(r, 2);
-    let t = sheet::byte(r, 3);
+// Those from 16 on are no steps.
+fn kind_of(byte: u8) -> Option<Kind> {
+    match byte {
+        0 => Some(Kind::Start),
+        1..=15 => Some(Kind::Step),
+        16 => Some(Kind::Alter),
+        17 => Some(Kind::Look),
+        18 => Some(Kind::Run),
+        _ => None,
+    }
+}
+
+// How many bytes tell an answer of that number: the number, the detail, and behind 15 both amounts.
+fn answer_bytes(number: u8) -> Option<usize> {
+    match number {
+        INSUFFICIENT_QUANTITY => Some(34),
+        0..=BAD_BOOK => Some(2),
+        _ => None,
+    }
+}
+
+// What is done, and what is expected of it. The head has the kind, a, b, t and the body's length.
+#[derive(Clone, Copy)]
+struct Record<'a> {
+    kind: Kind,
+    head: &'a [u8; 6],
+    body: &'a [u8],
+    expected: &'a [u8],
+}
+
+impl<'a> Record<'a> {
+    // The record that the bytes start with, and what follows it.
+    fn split(s: &'a [u8]) -> Option<(Record<'a>, &'a [u8])>
+        ensures { IfSome result (λ p. length p.1.now < length s.now) }
+    {
+        let (head, s) = s.split_first_chunk::<6>()?;
+        let kind = kind_of(head[0])?;
+        let (body, s) = s.split_at_checked(sheet::u16_at(head, 4) as usize)?;
+        let (expected, s) = match kind {
+            Kind::Start | Kind::Step => s.split_at_checked(answer_bytes(*s.first()?)?)?,
+            Kind::Alter | Kind::Look => s.split_at(0),
+            Kind::Run => {
+                let (size, s) = s.split_first_chunk::<2>()?;
+                s.split_at_checked(u16::from_le_bytes(*size) as usize)?
+            }
+        };
+        let record = Record {
+            kind,
+            head,
+            body,
+            expected,
+        };
+        Some((record, s))
+    }
+}
+
+// The step of a record, without its sheet; another kind is none.
+fn step_of(head: &[u8; 6]) -> Option<Step> {
+    let [kind, a, b, t, ..] = *head;
     match kind {
-        OPEN => Entry::Step(Step::Open(a)),
-        ACT => Entry::Step(Step::Act(a, b)),
-        BEGIN => Entry::Step(Step::Begin(a, b, t)),
-        FINISH => Entry::Step(Step::Finish(t)),
-        CANCEL => Entry::Step(Step::Cancel(t)),
-        _ => Entry::NoStep,
+        OPEN => Some(Step::Open(a)),
+        ACT => Some(Step::Act(a, b)),
+        BEGIN => Some(Step::Begin(a, b, t)),
+        FINISH => Some(Step::Finish(t)),
+        CANCEL => Some(Step::Cancel(t)),
+        _ => None,
     }
 }
 
 // ---- the book
 
-// Which records a step looks at. The remainders change nothing: they show without a proof that an index is in its array.
-fn transfer_at(step: Step) -> usize
-    ensures { result < 8 }
-{
-    steps::transfer_of(step) as usize % TRANSFERS
-}
-
-fn place_at(step: Step, from: u8, to: u8) -> usize
-    ensures { result < 16 }
-{
-    steps::place_of(step, from, to) as usize % PLACES
-}
-
-fn destination_at(step: Step) -> usize
-    ensures { result < 16 }
-{
-    steps::destination_of(step) as usize % PLACES
-}
-
-// The step's turn on what the book holds, read as `lent` and `session` read it. The book may be any: test 28 is judged here at each step.
-fn turn_at(book: Book, step: Step, sheet: &[u8]) -> Turn {
-    let total = audit::total_of(book);
-    let sum = total.sum;
-    let transfer = book.transfers[transfer_at(step)];
-    let amount = transfer.amount;
-    let carried = amount.mantissa;
-    let place = book.places[place_at(step, transfer.from, transfer.to)];
-    let balance = place.balance;
-    let held = balance.mantissa;
-    let destination = book.places[destination_at(step)];
-    let unit = book.unit;
-    let was = View {
-        held,
-        carried,
-        total: sum,
-        opened: book.opened,
-        pending: book.pending,
-        from: transfer.from,
-        to: transfer.to,
-        named: steps::length_of(destination.subject),
-        sound: total.sound,
-    };
-    steps::take_turn(step, was, unit, sheet)
-}
-
-// The book with what the turn leaves, stored where it was read.
-fn stored(mut book: Book, step: Step, turn: Turn, sheet: &[u8]) -> Book {
-    let left = turn.left;
-    let k = transfer_at(step);
-    let i = place_at(step, book.transfers[k].from, book.transfers[k].to);
-    book.places[i].balance.mantissa.hi = left.held.hi;
-    book.places[i].balance.mantissa.lo = left.held.lo;
-    book.transfers[k].from = left.from;
-    book.transfers[k].to = left.to;
-    book.transfers[k].amount.mantissa.hi = left.carried.hi;
-    book.transfers[k].amount.mantissa.lo = left.carried.lo;
-    book.opened = left.opened;
-    book.pending = left.pending;
-    let mut place = book.places[i];
-    let subject = place.subject;
-    let subject = steps::subject_after(step, turn.number, subject, sheet);
-    place.subject = subject;
-    book.places[i] = place;
-    book
-}
-
-// An amount whose highest byte is t.
+// A number whose highest byte is t.
 fn high(t: u8) -> Uint128 {
     Uint128 {
         hi: (t as u64) << 56,
@@ -194,500 +121,253 @@ fn high(t: u8) -> Uint128 {
     }
 }
 
-// The record's field `a` set to its t, as no step would: of the book, of place b or of transfer b.
-fn altered(mut book: Book, r: &[u8]) -> Book {
-    let a = sheet::byte(r, 1);
-    let i = sheet::byte(r, 2) as usize;
-    let t = sheet::byte(r, 3);
-    if a < 5 {
-        return altered_head(book, a, t);
-    }
-    if 7 < i {
-        return book;
-    }
-    if a < 8 {
-        book.places[i] = altered_place(book.places[i], a, t);
-        return book;
-    }
-    book.transfers[i] = altered_transfer(book.transfers[i], a, t);
-    book
-}
-
-fn altered_head(mut book: Book, a: u8, t: u8) -> Book {
-    let field = a;
-    match field {
-        1 => {
-            let unit = book.unit;
-            let bytes = unit.bytes;
-            let cut = Name { bytes, len: t };
-            book.unit = cut;
-            book
-        }
-        2 => {
-            book.opened = book.opened / 256 * 256 + t as u16;
-            book
-        }
-        3 => {
-            book.opened = book.opened % 256 + 256 * (t as u16);
-            book
-        }
+// Sets field a to t, as no step would: of the book, of place i or of transfer i.
+fn alter(book: &mut Book, a: u8, i: usize, t: u8) {
+    match a {
+        1 => book.unit.len = t,
+        2 => book.opened = book.opened / 256 * 256 + t as u16,
+        3 => book.opened = book.opened % 256 + 256 * t as u16,
+        0 | 4 => book.pending = t,
         _ => {
-            book.pending = t;
-            book
+            if i < TRANSFERS {
+                alter_at(&mut book.places[i], &mut book.transfers[i], a, t);
+            }
         }
     }
 }
 
-fn altered_place(mut x: Place, a: u8, t: u8) -> Place {
-    let field = a;
-    match field {
-        5 => {
-            let name = x.subject;
-            let bytes = name.bytes;
-            let cut = Name { bytes, len: t };
-            x.subject = cut;
-            x
-        }
-        6 => {
-            let held = x.balance;
-            let mantissa = held.mantissa;
-            let other = Amount { mantissa, scale: t };
-            x.balance = other;
-            x
-        }
-        _ => {
-            let held = x.balance;
-            let other = Amount {
-                mantissa: high(t),
-                scale: held.scale,
-            };
-            x.balance = other;
-            x
-        }
+fn alter_at(place: &mut Place, transfer: &mut Transfer, a: u8, t: u8) {
+    match a {
+        5 => place.subject.len = t,
+        6 => place.balance.scale = t,
+        7 => place.balance.mantissa = high(t),
+        8 => transfer.from = t,
+        9 => transfer.to = t,
+        10 => transfer.amount.scale = t,
+        _ => transfer.amount.mantissa = high(t),
     }
 }
 
-fn altered_transfer(mut r: Transfer, a: u8, t: u8) -> Transfer {
-    let field = a;
-    match field {
-        8 => {
-            r.from = t;
-            r
-        }
-        9 => {
-            r.to = t;
-            r
-        }
-        10 => {
-            let carried = r.amount;
-            let mantissa = carried.mantissa;
-            let other = Amount { mantissa, scale: t };
-            r.amount = other;
-            r
-        }
-        _ => {
-            let carried = r.amount;
-            let other = Amount {
-                mantissa: high(t),
-                scale: carried.scale,
-            };
-            r.amount = other;
-            r
-        }
-    }
+// ---- what is compared: each function has what follows in `e`, where `e` starts with what is expected
+
+fn past_number(e: &[u8], n: Uint128) -> Option<&[u8]> {
+    e.strip_prefix(&n.lo.to_le_bytes())?
+        .strip_prefix(&n.hi.to_le_bytes())
 }
 
-// ---- what is compared
-
-// The 16 bytes at i hold the number.
-fn same_number(e: &[u8], i: usize, n: Uint128) -> bool {
-    if 4096 < i {
-        return false;
+// All amounts of a step are whole.
+fn past_amount(e: &[u8], a: Amount) -> Option<&[u8]> {
+    if a.scale != 0 {
+        return None;
     }
-    let a = sheet::amount_at(e, i as u16);
-    let m = a.mantissa;
-    m.hi == n.hi && m.lo == n.lo
+    past_number(e, a.mantissa)
 }
 
-// Amounts but 15's are zero, and all of a step are whole.
-fn same_amounts(e: &[u8], a: Answer) -> bool {
-    let available = a.available;
-    let requested = a.requested;
-    if available.scale != 0 {
-        return false;
+// Amounts but 15's are zero, and are not there.
+fn past_answer(e: &[u8], a: Answer) -> Option<&[u8]> {
+    if a.length != 0 {
+        return None;
     }
-    if requested.scale != 0 {
-        return false;
-    }
-    let held = available.mantissa;
-    let asked = requested.mantissa;
-    if a.number == 15 {
-        return same_number(e, 2, held) && same_number(e, 18, asked);
-    }
-    held.is_zero() && asked.is_zero()
+    let e = e.strip_prefix(&[a.number, a.detail])?;
+    let amounts = if a.number == INSUFFICIENT_QUANTITY {
+        e
+    } else {
+        &[0u8; 32]
+    };
+    past_amount(past_amount(amounts, a.available)?, a.requested)
 }
 
-// `e` holds the answer that is expected.
-fn same_answer(e: &[u8], a: Answer) -> bool {
-    a.number == sheet::byte(e, 0)
-        && a.detail == sheet::byte(e, 1)
-        && a.length == 0
-        && same_amounts(e, a)
+fn past_name(e: &[u8], name: Name) -> Option<&[u8]> {
+    e.strip_prefix(&name.bytes)?.strip_prefix(&[name.len])
 }
 
-fn same_name(e: &[u8], at: usize, bytes: [u8; 32], len: u8) -> bool {
-    if 4096 < at {
-        return false;
-    }
-    for i in 0..32 {
-        if sheet::byte(e, at + i) != bytes[i] {
-            return false;
+fn past_place(e: &[u8], x: Place) -> Option<&[u8]> {
+    past_number(past_name(e, x.subject)?, x.balance.mantissa)
+}
+
+fn past_transfer(e: &[u8], r: Transfer) -> Option<&[u8]> {
+    past_number(e.strip_prefix(&[r.from, r.to])?, r.amount.mantissa)
+}
+
+// Of the places and transfers, those that are in use.
+fn past_book(e: &[u8], book: Book) -> Option<&[u8]> {
+    let mut e = e
+        .strip_prefix(&book.opened.to_le_bytes())?
+        .strip_prefix(&[book.pending])?;
+    for (p, place) in book.places.iter().enumerate() {
+        if (book.opened >> p) & 1 == 1 {
+            e = past_place(e, *place)?;
         }
     }
-    sheet::byte(e, at + 32) == len
-}
-
-fn same_place(e: &[u8], at: usize, x: Place) -> bool {
-    let name = x.subject;
-    let bytes = name.bytes;
-    let held = x.balance;
-    if 4096 < at {
-        return false;
-    }
-    same_name(e, at, bytes, name.len) && same_number(e, at + 33, held.mantissa)
-}
-
-fn same_transfer(e: &[u8], at: usize, r: Transfer) -> bool {
-    let carried = r.amount;
-    if 4096 < at {
-        return false;
-    }
-    r.from == sheet::byte(e, at)
-        && r.to == sheet::byte(e, at + 1)
-        && same_number(e, at + 2, carried.mantissa)
-}
-
-// Where what follows a record stands: behind it where it is in use, and nowhere once one differs.
-fn behind(at: usize, used: bool, same: bool, size: usize) -> usize {
-    if !used {
-        return at;
-    }
-    if !same {
-        return NOWHERE;
-    }
-    if NOWHERE <= at {
-        return NOWHERE;
-    }
-    if NOWHERE < size {
-        return NOWHERE;
-    }
-    at + size
-}
-
-fn behind_places(e: &[u8], book: Book) -> usize {
-    let opened = book.opened;
-    let mut at: usize = 3;
-    for i in 0..16 {
-        let p = i as u16;
-        let x = book.places[i];
-        at = behind(at, (opened >> p) & 1 == 1, same_place(e, at, x), 49);
-    }
-    at
-}
-
-fn behind_transfers(e: &[u8], start: usize, book: Book) -> usize {
-    let pending = book.pending;
-    let mut at = start;
-    for i in 0..8 {
-        let t = i as u8;
-        let r = book.transfers[i];
-        at = behind(at, (pending >> t) & 1 == 1, same_transfer(e, at, r), 18);
-    }
-    at
-}
-
-// `e` holds the book that is expected.
-fn same_book(e: &[u8], book: Book) -> bool {
-    let at = behind_transfers(e, behind_places(e, book), book);
-    sheet::u16_at(e, 0) == book.opened && sheet::byte(e, 2) == book.pending && at == e.len()
-}
-
-// `e` holds each step's number and detail. Behind its end are zeros, and so must be the answers of steps that were not done.
-fn same_answers(e: &[u8], run: Run) -> bool {
-    for k in 0..MAX_STEPS {
-        let a = run.steps[k];
-        if a.number != sheet::byte(e, 2 * k) {
-            return false;
-        }
-        if a.detail != sheet::byte(e, 2 * k + 1) {
-            return false;
+    for (t, transfer) in book.transfers.iter().enumerate() {
+        if (book.pending >> t) & 1 == 1 {
+            e = past_transfer(e, *transfer)?;
         }
     }
-    true
+    Some(e)
 }
 
-// `e` holds the answers and the book that are expected of a run of n steps.
-fn same_run(e: &[u8], n: u8, run: Run) -> bool {
-    let end = 2 * n as usize;
-    let book = run.book;
-    run.number == 0
-        && run.count == n as u16
-        && same_answers(sheet::part(e, 0, end), run)
-        && same_book(sheet::part(e, end, e.len()), book)
+// The first n answers, each its number and detail. Those of steps that were not done must be zeros.
+fn past_answers<'a>(e: &'a [u8], n: u8, run: &Run) -> Option<&'a [u8]> {
+    let (done, undone) = run.steps.split_at(n as usize);
+    let mut e = e;
+    for a in done {
+        e = e.strip_prefix(&[a.number, a.detail])?;
+    }
+    if undone.iter().any(|a| a.number != 0 || a.detail != 0) {
+        return None;
+    }
+    Some(e)
+}
+
+// A run of n steps: the answers, and the book behind them.
+fn past_run<'a>(e: &'a [u8], n: u8, run: &Run) -> Option<&'a [u8]> {
+    if run.number != 0 || run.count != n as u16 {
+        return None;
+    }
+    past_book(past_answers(e, n, run)?, run.book)
+}
+
+// Whether nothing follows.
+fn is_whole(rest: Option<&[u8]>) -> bool {
+    rest.is_some_and(|e| e.is_empty())
 }
 
 // ---- counts
 
-fn add(counts: &mut [u64; COUNTS], row: usize, equal: bool, n: u64) {
-    if row >= COUNTS / 2 {
-        return;
-    }
-    let i = if equal { 2 * row } else { 2 * row + 1 };
-    if i < COUNTS {
-        counts[i] = counts[i].wrapping_add(n);
+// By the answers' numbers, and the books at a list's end; the alterations, and the altered books that met 28; the runs, and the answers in them.
+#[derive(Clone, Copy, Default)]
+struct Counts {
+    numbers: Tally<NUMBERS>,
+    books: Row,
+    altered: u64,
+    bad: u64,
+    runs: Row,
+    run_answers: Row,
+}
+
+impl Counts {
+    // Of the numbers, those that occur.
+    fn print(&self, out: &mut impl Write) -> io::Result<()> {
+        for (number, row) in self.numbers.rows.iter().enumerate() {
+            if *row != Row::default() {
+                writeln!(out, "number {number}: {row}")?;
+            }
+        }
+        writeln!(out, "books at a list's end: {}", self.books)?;
+        writeln!(out, "alterations: {}", self.altered)?;
+        writeln!(out, "altered books that met 28: {}", self.bad)?;
+        writeln!(out, "lists through the run: {}", self.runs)?;
+        writeln!(out, "answers in them: {}", self.run_answers.equal)
     }
 }
 
-fn count(counts: &mut [u64; COUNTS], row: usize, equal: bool) {
-    add(counts, row, equal, 1);
+// How a list's book came to be as it is: its steps left it so, or it was altered, and then may have met 28.
+#[derive(Clone, Copy, PartialEq, Eq)]
+enum State {
+    AsLeft,
+    Altered,
+    MetBad,
 }
 
-fn unequal(out: &mut impl Write, at: usize) -> io::Result<()> {
-    writeln!(out, "unequal: the record at byte {at}")
-}
-
-// Whether the list's book is as its steps left it (0), was altered (1), or was altered and has met 28 (2).
-fn state_after(state: u8, kind: u8, number: u8) -> u8 {
-    if kind == START {
-        return 0;
-    }
-    if kind == ALTER {
-        return if state == 0 { 1 } else { state };
-    }
-    if number == LAST && state == 1 {
-        2
-    } else {
-        state
-    }
-}
-
-// The number that a record's step answered, 0 where it is none, and the book after the record.
+// The list's book, as the record before left it, and the counts. Each method judges a record of one kind: whether it came out as expected.
 #[derive(Clone, Copy)]
-struct Done {
-    number: u8,
+struct Keeper {
     book: Book,
+    state: State,
+    counts: Counts,
 }
 
-// Holds a step's or a start's answer to the record's.
-fn judge_answer(
-    out: &mut impl Write,
-    r: &[u8],
-    at: usize,
-    a: Answer,
-    counts: &mut [u64; COUNTS],
-) -> io::Result<()> {
-    let e = sheet::part(r, answer_at(r), 34);
-    let equal = same_answer(e, a);
-    if !equal {
-        unequal(out, at)?;
-    }
-    count(counts, sheet::byte(e, 0) as usize, equal);
-    Ok(())
-}
-
-fn judge_start(
-    out: &mut impl Write,
-    r: &[u8],
-    at: usize,
-    counts: &mut [u64; COUNTS],
-) -> io::Result<Done> {
-    let a = steps::start_answer(body(r));
-    judge_answer(out, r, at, a, counts)?;
-    Ok(Done {
-        number: a.number,
-        book: steps::start_book(body(r)),
-    })
-}
-
-// A record of no kind that is known has no answer to be equal to.
-fn judge_step(
-    out: &mut impl Write,
-    r: &[u8],
-    at: usize,
-    book: Book,
-    counts: &mut [u64; COUNTS],
-) -> io::Result<Done> {
-    let Entry::Step(step) = step_of(r) else {
-        unequal(out, at)?;
-        return Ok(Done { number: 0, book });
-    };
-    let turn = turn_at(book, step, body(r));
-    judge_answer(out, r, at, steps::answer_of(turn), counts)?;
-    Ok(Done {
-        number: turn.number,
-        book: stored(book, step, turn, body(r)),
-    })
-}
-
-fn judge_book(
-    out: &mut impl Write,
-    r: &[u8],
-    at: usize,
-    book: Book,
-    counts: &mut [u64; COUNTS],
-    state: u8,
-) -> io::Result<()> {
-    let equal = same_book(body(r), book);
-    if !equal {
-        unequal(out, at)?;
-    }
-    count(counts, BOOKS, equal);
-    if state == 2 {
-        count(counts, BAD, true);
-    }
-    Ok(())
-}
-
-// The list as a session, through the run. It has a book of its own.
-fn judge_run(
-    out: &mut impl Write,
-    r: &[u8],
-    at: usize,
-    counts: &mut [u64; COUNTS],
-) -> io::Result<()> {
-    let n = sheet::byte(r, 3);
-    let behind = answer_at(r);
-    let e = sheet::part(r, behind + 2, sheet::u16_at(r, behind) as usize);
-    let equal = same_run(e, n, running::run(body(r)));
-    if !equal {
-        unequal(out, at)?;
-    }
-    count(counts, RUNS, equal);
-    add(counts, RUN_ANSWERS, equal, n as u64);
-    Ok(())
-}
-
-// Puts one record to the book.
-fn judge(
-    out: &mut impl Write,
-    r: &[u8],
-    at: usize,
-    book: Book,
-    counts: &mut [u64; COUNTS],
-    state: u8,
-) -> io::Result<Done> {
-    let kind = sheet::byte(r, 0);
-    match kind {
-        START => judge_start(out, r, at, counts),
-        ALTER => {
-            count(counts, ALTERED, true);
-            Ok(Done {
-                number: 0,
-                book: altered(book, r),
-            })
+impl Keeper {
+    fn new() -> Keeper {
+        Keeper {
+            book: steps::start_book(b""),
+            state: State::AsLeft,
+            counts: Counts::default(),
         }
-        LOOK => {
-            judge_book(out, r, at, book, counts, state)?;
-            Ok(Done { number: 0, book })
+    }
+
+    fn judge_record(&mut self, r: Record) -> bool {
+        match r.kind {
+            Kind::Start => self.start(r),
+            Kind::Step => self.step(r),
+            Kind::Alter => self.alter(r),
+            Kind::Look => self.look(r),
+            Kind::Run => self.run(r),
         }
-        RUN => {
-            judge_run(out, r, at, counts)?;
-            Ok(Done { number: 0, book })
+    }
+
+    // Holds a step's or a start's answer to the record's, whose number is its first byte.
+    fn answer(&mut self, r: Record, a: Answer) -> bool {
+        let equal = is_whole(past_answer(r.expected, a));
+        self.counts
+            .numbers
+            .count(sheet::byte(r.expected, 0) as usize, equal);
+        equal
+    }
+
+    fn start(&mut self, r: Record) -> bool {
+        self.book = steps::start_book(r.body);
+        self.state = State::AsLeft;
+        self.answer(r, steps::start_answer(r.body))
+    }
+
+    // A record of no kind that is known has no answer to be equal to.
+    fn step(&mut self, r: Record) -> bool {
+        let Some(step) = step_of(r.head) else {
+            return false;
+        };
+        let a = lent::step_in(&mut self.book, step, r.body);
+        if a.number == BAD_BOOK && self.state == State::Altered {
+            self.state = State::MetBad;
         }
-        _ => judge_step(out, r, at, book, counts),
+        self.answer(r, a)
     }
-}
 
-// Puts each record to the book as the one before left it, and answers how many bytes are left over.
-fn judge_all(out: &mut impl Write, s: &[u8], counts: &mut [u64; COUNTS]) -> io::Result<usize> {
-    let mut book = steps::start_book(b"");
-    let mut state: u8 = 0;
-    let mut at: usize = 0;
-    while at < s.len() {
-        let r = &s[at..];
-        let n = size(r);
-        if n == 0 {
-            return Ok(s.len() - at);
+    fn alter(&mut self, r: Record) -> bool {
+        let [_, a, i, t, ..] = *r.head;
+        alter(&mut self.book, a, i as usize, t);
+        if self.state == State::AsLeft {
+            self.state = State::Altered;
         }
-        let done = judge(out, r, at, book, counts, state)?;
-        state = state_after(state, sheet::byte(r, 0), done.number);
-        book = done.book;
-        at += n;
+        self.counts.altered = self.counts.altered.wrapping_add(1);
+        true
     }
-    Ok(0)
-}
 
-fn count_at(counts: &[u64; COUNTS], i: usize) -> u64 {
-    if i < COUNTS { counts[i] } else { 0 }
-}
-
-fn print_row(out: &mut impl Write, counts: &[u64; COUNTS], row: usize) -> io::Result<()> {
-    if row >= COUNTS / 2 {
-        return Ok(());
-    }
-    let equal = count_at(counts, 2 * row);
-    let unequal = count_at(counts, 2 * row + 1);
-    writeln!(out, ": {equal} equal, {unequal} unequal")
-}
-
-// A number, where it occurs.
-fn print_number(out: &mut impl Write, counts: &[u64; COUNTS], row: usize) -> io::Result<()> {
-    if row >= BOOKS {
-        return Ok(());
-    }
-    if count_at(counts, 2 * row) == 0 && count_at(counts, 2 * row + 1) == 0 {
-        return Ok(());
-    }
-    write!(out, "number {row}")?;
-    print_row(out, counts, row)
-}
-
-fn print_numbers(out: &mut impl Write, counts: &[u64; COUNTS]) -> io::Result<()> {
-    for row in 0..BOOKS {
-        print_number(out, counts, row)?;
-    }
-    Ok(())
-}
-
-// Room for the list. The contract says its length alone, so that no proof counts its bytes.
-fn room() -> [u8; READ_BYTES]
-    ensures { 1572864 ≡ length result }
-{
-    [0; READ_BYTES]
-}
-
-// Reads until the room is full or the input ends: how many bytes came.
-fn read_full(input: &mut impl Read, room: &mut [u8]) -> io::Result<usize>
-    ensures { IfOk result (λ n. n ≤ length room.old) }
-{
-    let mut n = 0;
-    while n < room.len() {
-        let more = input.read(&mut room[n..])?;
-        if more == 0 {
-            return Ok(n);
+    fn look(&mut self, r: Record) -> bool {
+        let equal = is_whole(past_book(r.body, self.book));
+        self.counts.books.count(equal);
+        if self.state == State::MetBad {
+            self.counts.bad = self.counts.bad.wrapping_add(1);
         }
-        n += more;
+        equal
     }
-    Ok(n)
+
+    // The list as a session, through the run. It has a book of its own.
+    fn run(&mut self, r: Record) -> bool {
+        let n = r.head[3];
+        let equal = is_whole(past_run(r.expected, n, &running::run(r.body)));
+        self.counts.runs.count(equal);
+        self.counts.run_answers.add(equal, n as u64);
+        equal
+    }
+}
+
+impl Judge for Keeper {
+    fn judge<'a>(&mut self, s: &'a [u8]) -> Option<(bool, &'a [u8])> {
+        let (r, rest) = Record::split(s)?;
+        Some((self.judge_record(r), rest))
+    }
 }
 
 fn main(rt: HostRuntime) -> io::Result<()> {
-    let mut list = room();
-    let n = read_full(&mut rt.reader(), &mut list)?;
+    let mut list = Vec::new(rt.alloc());
+    rt.reader().take(READ_BYTES).read_to_end(&mut list)?;
     let mut out = BufWriter::new(rt.alloc(), io::writer(&rt))?;
-    let mut counts = [0u64; COUNTS];
-    let rest = judge_all(&mut out, &list[..n], &mut counts)?;
-    print_numbers(&mut out, &counts)?;
-    write!(out, "books at a list's end")?;
-    print_row(&mut out, &counts, BOOKS)?;
-    let altered = count_at(&counts, 2 * ALTERED);
-    writeln!(out, "alterations: {altered}")?;
-    let bad = count_at(&counts, 2 * BAD);
-    writeln!(out, "altered books that met 28: {bad}")?;
-    write!(out, "lists through the run")?;
-    print_row(&mut out, &counts, RUNS)?;
-    let answers = count_at(&counts, 2 * RUN_ANSWERS);
-    writeln!(out, "answers in them: {answers}")?;
+    let mut keeper = Keeper::new();
+    let rest = tally::judge_all(&mut out, &list, &mut keeper)?;
+    keeper.counts.print(&mut out)?;
+    let n = list.len();
     writeln!(out, "bytes {n}, left over {rest}")?;
     out.flush()
 }

@@ -2,7 +2,8 @@
 // their names, each behind its length of 16 bits. tools/example_cases joins them.
 #![tactic(auto)]
 
-ghost use Rattle.std.specs.Prelude.{◌≤◌, length};
+ghost use Rattle.std.specs.Iterator.{at_most};
+ghost use Rattle.std.specs.Prelude.{length};
 
 use std::io;
 use std::io::{BufWriter, Read, Write};
@@ -17,35 +18,30 @@ fn print(out: &mut impl Write, session: &[u8]) -> io::Result<()> {
     out.write_all(&listing[..len])
 }
 
-// The length of the session that the bytes start with, and of its length before it; all of them where they end first.
-fn size(s: &[u8]) -> usize
-    ensures { result ≤ length s.now }
-{
-    let n = 2 + sheet::u16_at(s, 0) as usize;
-    if s.len() < n {
-        return s.len();
-    }
-    n
-}
+// The sessions, each behind its length of 16 bits. One that ends before its length is given as far as it goes.
+#[derive(Drop)]
+struct Sessions<'a>(&'a [u8]);
 
-fn print_all(out: &mut impl Write, s: &[u8]) -> io::Result<()> {
-    let mut at: usize = 0;
-    while at < s.len() {
-        let rest = &s[at..];
-        let n = size(rest);
-        if n < 2 {
-            return Ok(());
-        }
-        print(out, &rest[2..n])?;
-        at += n;
+impl<'a> Iterator for Sessions<'a> {
+    type Item = &'a [u8];
+
+    ghost remaining = { λ s. at_most (length s.0.now) };
+
+    fn next(&mut self) -> Option<&'a [u8]> {
+        let (size, s) = self.0.split_first_chunk::<2>()?;
+        let n = u16::from_le_bytes(*size) as usize;
+        let (session, rest) = s.split_at(n.min(s.len()));
+        self.0 = rest;
+        Some(session)
     }
-    Ok(())
 }
 
 fn main(rt: HostRuntime) -> io::Result<()> {
     let mut sessions = Vec::new(rt.alloc());
     rt.reader().take(READ_BYTES).read_to_end(&mut sessions)?;
     let mut out = BufWriter::new(rt.alloc(), io::writer(&rt))?;
-    print_all(&mut out, &sessions)?;
+    for session in Sessions(&sessions) {
+        print(&mut out, session)?;
+    }
     out.flush()
 }

@@ -1,60 +1,81 @@
--- What a step reads of a lent book is what it looks at, and what it stores there is the book after it.
-use mathlib.Core.Path.{◌≡◌, ap, ◌∙◌}
-use mathlib.Core.List.{List}
-use Prim.Native.Nat.{ℕ}
+-- What a step reads of a lent book is what it looks at, what it stores there is the book after it, and the total that it leaves is that book's.
+use mathlib.Core.Path.{◌≡◌, refl, sym, ap, ◌∙◌}
+use mathlib.Core.Bool.{true}
+use mathlib.Core.List.{List, [], ◌∷◌}
+use Prim.Native.Nat.{ℕ, ◌+◌, ◌^◌, ◌<◌, ◌≤◌}
+use native.Mathlib.Omega.{arith}
 use lib.ListN.{length, set}
-use Rattle.amount.specs.declared.Amount.{Amount}
+use Rattle.std.specs.Prelude.{Option, Some, Result, Ok, Err, IfOk}
+use Rattle.amount.specs.Numbers.{halves}
 use Rattle.amount.specs.declared.uint128.Uint128.{Uint128}
-use Rattle.book.specs.Book.{name_bytes, place_record, transfer_record, set_subject, set_balance}
+use Rattle.book.specs.Book.{name_bytes, place_record, transfer_record, total, is_well_formed}
+use Rattle.book.specs.Claim.{issued, taken}
+use Rattle.book.specs.Steps.{Step, answer, next, issues, takes}
 use Rattle.book.specs.declared.Book.{Book}
 use Rattle.book.specs.declared.Name.{Name}
-use Rattle.book.specs.declared.Place.{Place}
-use Rattle.book.specs.declared.Transfer.{Transfer}
-use Rattle.amount.proofs.Halves.{val_of}
+use Rattle.book.specs.declared.error.BookError.{BookError}
+use Rattle.book.proofs.Facts.{accepted_tests}
+use Rattle.book.proofs.Formed.{formed}
+use Rattle.book.proofs.Views.{Shape}
+use Rattle.book.proofs.Steady.{step_steady}
 use Rattle.audit.specs.Totals.{total_of}
-use Rattle.audit.proofs.Sound.{total_sound, total_sum}
 use Rattle.steps.proofs.Looks.{seen_at, at_spot, shows_at}
-use Rattle.steps.specs.Turn.{transfer_of, place_of, destination_of, subject_after, stored_at, stored, Shows}
-use Rattle.steps.specs.declared.step.Step.{Step}
-use Rattle.audit.specs.declared.totals.Total.{Total}
-use Rattle.steps.specs.declared.step.Turn.{Turn}
+use Rattle.steps.proofs.Turned.{place_back, transfer_back}
+use Rattle.steps.specs.Turn.{with_sheet, transfer_of, place_of, destination_of, subject_after, outcome_of, stored_at, stored, Shows, Turned}
+use Rattle.steps.specs.declared.step.Step.{Step as Kind}
 use Rattle.steps.specs.declared.step.View.{View}
 
--- ---- fields
+-- lengths and ranges, which every value of the type has
+pub record Sized (b : Book) : Type 0 where
+  pub places : length b.places ≡ 16
+  pub transfers : length b.transfers ≡ 8
+  pub opened : b.opened < 2 ^ 16
+  pub pending : b.pending < 2 ^ 8
 
-abbrev pub set_mantissa : Amount → Uint128 → Amount
-set_mantissa a m = record { mantissa = m; scale = a.scale }
+-- ---- what a step reads, at transfer k and place i, and what it stores there
 
-abbrev pub set_from : Transfer → ℕ → Transfer
-set_from r n = record { from = n; to = r.to; amount = r.amount }
+module _ (b : Book) (s : Kind) {k i : ℕ} (e-k : k ≡ transfer_of s) (e-i : i ≡ place_of s (transfer_record b k).from (transfer_record b k).to) where
+  pub shown : {j n : ℕ} {t : Option Uint128} → j ≡ destination_of s → n ≡ length (name_bytes (place_record b j).subject) → t ≡ total_of b → Shows b s (seen_at b k i t n)
+  shown {j} {n} {t} e-j e-n e-t = shows_at b s e-k e-i e-j t n e-n e-t
 
-abbrev pub set_to : Transfer → ℕ → Transfer
-set_to r n = record { from = r.from; to = n; amount = r.amount }
+  pub stored_so : (l : List ℕ) (x : View) {u : Name} → u ≡ subject_after s (place_record b i).subject l → stored_at b i k u x ≡ stored b s l (Ok x)
+  stored_so l x {u} e =
+      λ a. stored_at b (at_spot b s e-k e-i a) (e-k a) ((e ∙ ap (λ (p : ℕ). subject_after s (place_record b p).subject l) (at_spot b s e-k e-i)) a) x
 
-abbrev pub set_amount : Transfer → Amount → Transfer
-set_amount r a = record { from = r.from; to = r.to; amount = a }
+-- ---- the total after it
 
--- h with x as place p, r as transfer t, and the sets s and g
-abbrev pub laid : Book → ℕ → ℕ → Place → Transfer → ℕ → ℕ → Book
-laid h p t x r s g = record { unit = h.unit; opened = s; pending = g; places = set h.places p x; transfers = set h.transfers t r }
+in_shape : (b : Book) → Sized b → is_well_formed b ≡ true → Shape b
+unfolding place_record transfer_record
+in_shape b z h =
+    let f = formed b h in
+    record {
+      places = record { size = z.places; range = z.opened; wholes = f.whole_places };
+      transfers = record { size = z.transfers; range = z.pending; wholes = f.whole_transfers };
+    }
 
--- ---- what a step reads, and what it stores
+module _ (b : Book) (s : Kind) (l : List ℕ) where
+  abbrev z : Step
+  z = with_sheet s l
 
--- what it reads, at transfer k and place i, with n the length of one more subject
-abbrev pub seen : Book → (k i n : ℕ) → Total → View
-seen h k i n t = seen_at h k i t.sum n t.sound
+  total_after : Sized b → (x : View) → Turned b s l (Ok x) → x.total ≡ total_of (next b z)
+  unfolding total_of
+  total_after d x m =
+      let yes· : answer b z ≡ Ok tt = sym m.answers in
+      let sound = (accepted_tests b z yes·).0 in
+      let steady = step_steady b z (record { shape = in_shape b d sound; formed = sound }) in
+      let moved : total (next b z) + taken (z ∷ []) ≡ total b + issued (z ∷ []) = rw yes· at steady.moved in
+      m.total x refl (total (next b z)) (omega (arith, moved)) ∙ rw steady.steady.formed
 
--- what it stores
-abbrev pub left_in : Book → (k i : ℕ) → Name → View → Book
-left_in h k i n x =
-    laid h i k (set_subject (set_balance (place_record h i) (set_mantissa (place_record h i).balance x.held)) n)
-    (set_amount (set_to (set_from (transfer_record h k) x.from) x.to) (set_mantissa (transfer_record h k).amount x.carried)) x.opened x.pending
+  -- a lent book h, and the total, after a step
+  abbrev pub Done : Result (Option Uint128) BookError → Book → Type 0
+  Done r h = (outcome_of r ≡ answer b z) × (h ≡ next b z) × IfOk r (λ n. n ≡ total_of h)
 
-module _ (h : Book) (s : Step) {k i : ℕ} (e-k : k ≡ transfer_of s) (e-i : i ≡ place_of s (transfer_record h k).from (transfer_record h k).to) where
-  pub shown : {j n : ℕ} {t : Total} → j ≡ destination_of s → n ≡ length (name_bytes (place_record h j).subject) → t ≡ total_of h → Shows h s (seen h k i n t)
-  shown {j} {n} {t} e-j e-n e-t =
-      shows_at h s e-k e-i e-j t.sum n t.sound e-n (total_sound h t e-t) (λ f. val_of (total_sum h t e-t f))
+  pub done : Sized b → (x : View) → Turned b s l (Ok x) → {h : Book} → h ≡ stored b s l (Ok x) → Done (Ok x.total) h
+  done d x m {h} e =
+      let after : h ≡ next b z = e ∙ m.book in
+      (m.answers, after, total_after d x m ∙ ap total_of (sym after))
 
-  pub stored_so : (l : List ℕ) (r : Turn) {u : Name} → u ≡ subject_after s r.number (place_record h i).subject l → left_in h k i u r.left ≡ stored h s l r
-  unfolding stored_at
-  stored_so l r {u} e = λ a. stored_at h (at_spot h s e-k e-i a) (e-k a) ((e ∙ ap (λ (p : ℕ). subject_after s r.number (place_record h p).subject l) (at_spot h s e-k e-i)) a) r.left
+  -- of a refused one nothing was stored, but what was lent is given back
+  pub undone : {f : BookError} {r : Result (Option Uint128) BookError} → Turned b s l (Err f) → (i k : ℕ) → r ≡ Err f
+      → Done r (record { unit = b.unit; opened = b.opened; pending = b.pending; places = set b.places i (place_record b i); transfers = set b.transfers k (transfer_record b k) })
+  undone {f} {r} m i k e = rw (e, place_back b i, transfer_back b k) (m.answers, m.book, tt)

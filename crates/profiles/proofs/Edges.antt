@@ -13,8 +13,8 @@ use Rattle.amount.specs.Amounts as Amounts
 use Rattle.amount.specs.Canonical.{strip, last_digits, width_up_to, width_of, whole_text, decimal_text, canonical_text}
 use Rattle.amount.specs.declared.Amount.{Amount}
 use Rattle.amount.specs.declared.Given.{Given}
-use Rattle.amount.specs.declared.uint128.Ordering.{Ordering}
-use Rattle.amount.specs.declared.uint128.Ordering.TheVariants.{Equal}
+use Rattle.std.specs.declared.cmp.Ordering.{Ordering}
+use Rattle.std.specs.declared.cmp.Ordering.TheVariants.{Equal}
 use Rattle.sheet.specs.Walk.{every, sum, prior}
 use Rattle.sheet.specs.Sheet.{entry_at, is_field, is_form, sound_as, entries_from, lookup}
 use Rattle.sheet.specs.Amounts.{amount_at}

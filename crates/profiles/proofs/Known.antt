@@ -13,10 +13,10 @@ use Rattle.registry.specs.Readers.{amount_in}
 use Rattle.registry.specs.Tests.{◌then◌, Row, among, ruled}
 use Rattle.registry.specs.Call.{profile_of, operation_of}
 use Rattle.registry.specs.declared.error.ProfileError.TheVariants.{UnknownProfile, UnknownOperation}
-use Rattle.registry.specs.declared.error.Outcome.TheVariants.{Accepted, Refused}
 use Rattle.profiles.specs.Stack.{stack_rows, stack_rules}
 use Rattle.profiles.specs.Balance.{balance_rows, balance_rules}
 use Rattle.profiles.specs.Meter.{meter_rows, meter_rules}
+use Rattle.std.specs.Prelude.{Ok, Err}
 
 -- the operations of a row, and of all rows, are of the profile
 abbrev each : ℕ → List ℕ → Bool
@@ -35,7 +35,7 @@ module _ (op p : ℕ) (h : eqb (profile_of op) p ≡ false) where
       let q : profile_of k ≡ p = eqb-true (profile_of k) p (and_left (eqb (profile_of k) p) (each p ks) e) in
       rw (ne_eqb op k (λ i. eqb-false (profile_of op) p h (ap profile_of i ∙ q))) (not_among ks (and_right (eqb (profile_of k) p) (each p ks) e))
 
-  not_ruled : (st : Sight) (inp : ℕ → Field) (rs : List Row) → every p rs ≡ true → ruled amount_in st inp op rs ≡ Refused UnknownOperation
+  not_ruled : (st : Sight) (inp : ℕ → Field) (rs : List Row) → every p rs ≡ true → ruled amount_in st inp op rs ≡ Err UnknownOperation
   not_ruled st inp [] e = refl
   not_ruled st inp (r ∷ rs) e =
       rw (not_among r.operations (and_left (each p r.operations) (every p rs) e)) (not_ruled st inp rs (and_right (each p r.operations) (every p rs) e))
@@ -45,7 +45,7 @@ lists : (p : ℕ) (rs : List Row) → (leb 1 p && leb p 3) ≡ true → every p 
 unfolding operation_of
 lists p rs b e st inp op = rw b (go (eqb (profile_of op) p) refl)
   where
-    go : (t : Bool) → eqb (profile_of op) p ≡ t → (cond t Accepted (Refused UnknownOperation) then ruled amount_in st inp op rs) ≡ ruled amount_in st inp op rs
+    go : (t : Bool) → eqb (profile_of op) p ≡ t → (cond t (Ok tt) (Err UnknownOperation) then ruled amount_in st inp op rs) ≡ ruled amount_in st inp op rs
     go true h = refl
     go false h = sym (not_ruled op p h st inp rs e)
 
@@ -63,11 +63,11 @@ module _ (st : Sight) (inp : ℕ → Field) (op : ℕ) where
   meter_lists = lists 3 meter_rows refl refl st inp op
 
 -- 3, where the profile is none of the three
-pub no_profile : (p op : ℕ) → p ≢ 1 → p ≢ 2 → p ≢ 3 → operation_of p op ≡ Refused UnknownProfile
+pub no_profile : (p op : ℕ) → p ≢ 1 → p ≢ 2 → p ≢ 3 → operation_of p op ≡ Err UnknownProfile
 unfolding operation_of
 no_profile p op a b c = go (leb 1 p) (leb p 3) refl refl
   where
-    go : (x y : Bool) → leb 1 p ≡ x → leb p 3 ≡ y → cond (x && y) (cond (eqb (profile_of op) p) Accepted (Refused UnknownOperation)) (Refused UnknownProfile) ≡ Refused UnknownProfile
+    go : (x y : Bool) → leb 1 p ≡ x → leb p 3 ≡ y → cond (x && y) (cond (eqb (profile_of op) p) (Ok (tt {0})) (Err UnknownOperation)) (Err UnknownProfile) ≡ Err UnknownProfile
     go true true l m = absurd (omega (arith, leb-true 1 p l, leb-true p 3 m, a, b, c))
     go true false l m = refl
     go false y l m = refl

@@ -2,8 +2,7 @@
 use Rattle.std.specs.Prelude.{List, [], ◌∷◌, ℕ}
 use Rattle.sheet.specs.Fields.{Field, Sight, balance, amount, to_subject, to_unit, authorized_by}
 use Rattle.registry.specs.Tests.{Test, born, in_text, in_amount, st_amount, positive, draws_on, creates, Row, row, ruled}
-use Rattle.registry.specs.declared.error.Outcome.{Outcome}
-use Rattle.registry.specs.declared.error.Reading.{Reading}
+use Rattle.registry.specs.Refusals.{Outcome, Reading}
 
 -- in amount, st balance, 14
 abbrev pub credited : List Test

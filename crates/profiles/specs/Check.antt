@@ -4,7 +4,7 @@ use Rattle.sheet.specs.Fields.{Field, field, Sight, sight_of}
 use Rattle.registry.specs.Readers.{amount_in}
 use Rattle.registry.specs.Tests.{◌then◌}
 use Rattle.registry.specs.Call.{called}
-use Rattle.registry.specs.declared.error.Outcome.{Outcome}
+use Rattle.registry.specs.Refusals.{Outcome}
 use Rattle.profiles.specs.Stack.{stack_rules}
 use Rattle.profiles.specs.Balance.{balance_rules}
 use Rattle.profiles.specs.Meter.{meter_rules}

@@ -2,8 +2,7 @@
 use Rattle.std.specs.Prelude.{List, [], ◌∷◌, ℕ}
 use Rattle.sheet.specs.Fields.{Field, Sight, subject, remaining, maximum, amount}
 use Rattle.registry.specs.Tests.{unborn, born, in_text, in_amount, st_amount, up_to_maximum, draws_on, Row, row, ruled}
-use Rattle.registry.specs.declared.error.Outcome.{Outcome}
-use Rattle.registry.specs.declared.error.Reading.{Reading}
+use Rattle.registry.specs.Refusals.{Outcome, Reading}
 
 -- 21 create; 22 consume; 23 refill; 24 set_maximum; 25 reset and 26 expire
 abbrev pub meter_rows : List Row

@@ -2,8 +2,7 @@
 use Rattle.std.specs.Prelude.{List, [], ◌∷◌, ℕ}
 use Rattle.sheet.specs.Fields.{Field, Sight, quantity, to_subject}
 use Rattle.registry.specs.Tests.{born, in_text, in_amount, positive, draws_on, creates, Row, row, ruled}
-use Rattle.registry.specs.declared.error.Outcome.{Outcome}
-use Rattle.registry.specs.declared.error.Reading.{Reading}
+use Rattle.registry.specs.Refusals.{Outcome, Reading}
 
 -- 1 create; 2 credit and 9 adjust; 7 release; 8 expire; 3 debit, 4 consume and 6 reserve; 5 transfer
 abbrev pub stack_rows : List Row

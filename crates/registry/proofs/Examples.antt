@@ -16,8 +16,7 @@ use Rattle.registry.specs.Readers.{marked, parsed, amount_by, amount_in, amount_
 use Rattle.registry.specs.Tests.{state_absent, above_zero, held_by, up_to, first, draws_on, creates}
 use Rattle.registry.specs.Call.{operation_of, called}
 use Rattle.registry.specs.declared.error.ProfileError.TheVariants.{TornState, TornInput, UnknownProfile, UnknownOperation, Missing, NotWhole, FloatForbidden, NoField, NonPositiveAmount, InsufficientQuantity, OverMaximum}
-use Rattle.registry.specs.declared.error.Outcome.TheVariants.{Accepted, Refused}
-use Rattle.registry.specs.declared.error.Reading.TheVariants.{Given, Failed}
+use Rattle.std.specs.Prelude.{Ok, Err}
 
 abbrev whole_of : ℕ → Amount
 whole_of n = record { mantissa = record { hi = 0; lo = n }; scale = 0 }
@@ -25,14 +24,14 @@ whole_of n = record { mantissa = record { hi = 0; lo = n }; scale = 0 }
 -- `5`; 49 digits and a point; `1e3` and `1E3`; 40 digits; no bytes; no string; nothing. 11 comes before 10, however long the text
 amounts : map (amount_in amount)
     (text (53 ∷ []) ∷ text (replicate 49 48 ++ (46 ∷ [])) ∷ text (49 ∷ 101 ∷ 51 ∷ []) ∷ text (49 ∷ 69 ∷ 51 ∷ []) ∷ text (replicate 40 48) ∷ text [] ∷ other ∷ absent ∷ [])
-    ≡ Given (whole_of 5) ∷ Failed (FloatForbidden 7) ∷ Failed (FloatForbidden 7) ∷ Failed (FloatForbidden 7) ∷ Failed (NotWhole 7) ∷ Failed (NotWhole 7) ∷ Failed (NotWhole 7)
-    ∷ Failed (Missing 7) ∷ []
+    ≡ Ok (whole_of 5) ∷ Err (FloatForbidden 7) ∷ Err (FloatForbidden 7) ∷ Err (FloatForbidden 7) ∷ Err (NotWhole 7) ∷ Err (NotWhole 7) ∷ Err (NotWhole 7)
+    ∷ Err (Missing 7) ∷ []
 unfolding val limit halves all_digits digits_after decimal amount_if read_of marked parsed amount_by
 amounts = refl
 
 -- all that is held may be asked, and a meter be created full; 15 says what is held and what is asked, in this order
-bounds : (map (held_by (whole_of 5)) (whole_of 5 ∷ whole_of 6 ∷ []) ≡ Accepted ∷ Refused (InsufficientQuantity (whole_of 5) (whole_of 6)) ∷ [])
-    × (map (λ a. up_to a (whole_of 5)) (whole_of 5 ∷ whole_of 6 ∷ []) ≡ Accepted ∷ Refused OverMaximum ∷ [])
+bounds : (map (held_by (whole_of 5)) (whole_of 5 ∷ whole_of 6 ∷ []) ≡ Ok tt ∷ Err (InsufficientQuantity (whole_of 5) (whole_of 6)) ∷ [])
+    × (map (λ a. up_to a (whole_of 5)) (whole_of 5 ∷ whole_of 6 ∷ []) ≡ Ok tt ∷ Err OverMaximum ∷ [])
 unfolding val order_of compare_of held_by up_to
 bounds = (refl, refl)
 
@@ -50,21 +49,21 @@ abbrev asking : ℕ → ℕ → Field
 asking digit n = text (digit ∷ [])
 
 -- 12 before 7; 7 before 14; 14 before 15; and 15
-taken : (first amount_in bare nothing (draws_on quantity quantity) ≡ Refused (NoField 3))
-    × (first amount_in holding nothing (draws_on quantity quantity) ≡ Refused (Missing 3))
-    × (first amount_in holding (asking 48) (draws_on quantity quantity) ≡ Refused NonPositiveAmount)
-    × (first amount_in holding (asking 54) (draws_on quantity quantity) ≡ Refused (InsufficientQuantity (whole_of 5) (whole_of 6)))
-    × (first amount_in holding (asking 53) (draws_on quantity quantity) ≡ Accepted)
+taken : (first amount_in bare nothing (draws_on quantity quantity) ≡ Err (NoField 3))
+    × (first amount_in holding nothing (draws_on quantity quantity) ≡ Err (Missing 3))
+    × (first amount_in holding (asking 48) (draws_on quantity quantity) ≡ Err NonPositiveAmount)
+    × (first amount_in holding (asking 54) (draws_on quantity quantity) ≡ Err (InsufficientQuantity (whole_of 5) (whole_of 6)))
+    × (first amount_in holding (asking 53) (draws_on quantity quantity) ≡ Ok tt)
 unfolding val limit halves order_of all_digits digits_after decimal amount_if read_of compare_of marked parsed amount_by amount_of above_zero held_by
 taken = (refl, refl, refl, refl, refl)
 
 -- a create asks for the subject first
-created : first amount_in (record { there = false; at = λ n. absent }) nothing (creates quantity) ≡ Refused (Missing 1)
+created : first amount_in (record { there = false; at = λ n. absent }) nothing (creates quantity) ≡ Err (Missing 1)
 unfolding state_absent text_in
 created = refl
 
 -- 1 before 2, 2 before 3, 3 before 4; the byte 0 is no state, and no bytes are no input
-called_first : (called 9 0 (0 ∷ []) [] ≡ Refused (TornState 1)) × (called 9 0 [] [] ≡ Refused TornInput) × (called 9 0 [] (0 ∷ []) ≡ Refused UnknownProfile)
-    × (called 1 11 [] (0 ∷ []) ≡ Refused UnknownOperation) × (called 2 11 [] (0 ∷ []) ≡ Accepted)
+called_first : (called 9 0 (0 ∷ []) [] ≡ Err (TornState 1)) × (called 9 0 [] [] ≡ Err TornInput) × (called 9 0 [] (0 ∷ []) ≡ Err UnknownProfile)
+    × (called 1 11 [] (0 ∷ []) ≡ Err UnknownOperation) × (called 2 11 [] (0 ∷ []) ≡ Ok tt)
 unfolding every sum prior entry_at is_field is_form sound_as operation_of called
 called_first = (refl, refl, refl, refl, refl)

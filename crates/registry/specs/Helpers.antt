@@ -1,23 +1,21 @@
 -- For the functions of `registry` that C does not get: no exported contract speaks of these.
-use Rattle.std.specs.Prelude.{cond, ℕ}
+use Rattle.std.specs.Prelude.{cond, ℕ, Result, Ok, Err}
 use Rattle.amount.specs.Amounts.{read_of}
-use Rattle.amount.specs.declared.AmountResult.{AmountResult}
-use Rattle.amount.specs.declared.AmountResult.TheVariants as Read
 use Rattle.sheet.specs.Fields.{Field, absent, text, figure, other}
 use Rattle.registry.specs.declared.error.ProfileError.{ProfileError}
 use Rattle.registry.specs.declared.error.ProfileError.TheVariants.{Missing, NotWhole, FloatForbidden}
 use Rattle.registry.specs.Readers.{marked, readable, on_amount}
-use Rattle.registry.specs.declared.error.Outcome.{Outcome}
-use Rattle.registry.specs.declared.error.Outcome.TheVariants.{Accepted}
-use Rattle.registry.specs.declared.error.Reading.{Reading}
+use Rattle.registry.specs.Refusals.{Outcome, Reading}
 use Rattle.registry.specs.Tests.{◌then◌, above_zero, held_by}
+use Rattle.amount.specs.declared.AmountError.{AmountError}
+use Rattle.amount.specs.declared.Amount.{Amount}
 
 -- an input amount in the code's order: the number that a field's text stands for, and only where there is none, why
-unfoldable pub read_in : Field → AmountResult
-read_in absent = Read.NotWhole
+unfoldable pub read_in : Field → Result Amount AmountError
+read_in absent = Err AmountError.NotWhole
 read_in (text t) = read_of t
-read_in (figure a) = Read.NotWhole
-read_in other = Read.NotWhole
+read_in (figure a) = Err AmountError.NotWhole
+read_in other = Err AmountError.NotWhole
 
 unfoldable pub fault_in : ℕ → Field → ProfileError
 fault_in n absent = Missing n
@@ -27,4 +25,4 @@ fault_in n other = NotWhole n
 
 -- what `draws_on` tests, of two readings: of what is held and of what is asked
 abbrev pub taking : Reading → Reading → Outcome
-taking held asked = readable held then readable asked then on_amount asked above_zero then on_amount held (λ h. on_amount asked (held_by h)) then Accepted
+taking held asked = readable held then readable asked then on_amount asked above_zero then on_amount held (λ h. on_amount asked (held_by h)) then Ok tt

@@ -3,5 +3,4 @@ pub mod Refusals
 pub mod Readers
 pub mod Tests
 pub mod Call
-pub mod Asked
 pub mod Helpers

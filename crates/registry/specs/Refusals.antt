@@ -1,11 +1,17 @@
 -- Document 01, section "Operations", the refusal table: the number, the detail and the two amounts of each refusal.
-use Rattle.std.specs.Prelude.{ℕ}
+use Rattle.std.specs.Prelude.{ℕ, Result, Ok, Err}
 use Rattle.amount.specs.declared.Amount.{Amount}
 use Rattle.registry.specs.declared.error.ProfileError.{ProfileError}
 use Rattle.registry.specs.declared.error.ProfileError.TheVariants.{TornState, TornInput, UnknownProfile, UnknownOperation, Born, Unborn, Missing, NotText, Empty, NotWhole, FloatForbidden, NoField, Blank, NonPositiveAmount, InsufficientQuantity, OverMaximum, Overflow, Underflow, NoCredit, Narrow}
-use Rattle.registry.specs.declared.error.Outcome.{Outcome}
-use Rattle.registry.specs.declared.error.Outcome.TheVariants.{Accepted, Refused}
 use Rattle.registry.specs.declared.error.Answer.{Answer}
+
+-- what a check says
+abbrev pub Outcome : Type 0
+Outcome = Result (Unit {0}) ProfileError
+
+-- an amount that was read, or why there is none
+abbrev pub Reading : Type 0
+Reading = Result Amount ProfileError
 
 abbrev pub zero_amount : Amount
 zero_amount = record { mantissa = record { hi = 0; lo = 0 }; scale = 0 }
@@ -40,5 +46,5 @@ refusal_of Narrow = numbered 20 0
 
 -- 0 is accepted; a check writes nothing
 abbrev pub answer_of : Outcome → Answer
-answer_of Accepted = numbered 0 0
-answer_of (Refused e) = refusal_of e
+answer_of (Ok _) = numbered 0 0
+answer_of (Err e) = refusal_of e

@@ -1,39 +1,37 @@
 -- Document 01, section "Operations": the tests that rules are lists of, and the answer of the first that is not passed.
-use Rattle.std.specs.Prelude.{Bool, false, cond, ◌||◌, List, [], ◌∷◌, ℕ, eqb}
+use Rattle.std.specs.Prelude.{Bool, false, cond, ◌||◌, List, [], ◌∷◌, ℕ, eqb, Ok, Err}
 use Rattle.amount.specs.Numbers.{val}
 use Rattle.amount.specs.Amounts.{compare_of, sum_of, difference_of}
 use Rattle.amount.specs.declared.Amount.{Amount}
-use Rattle.amount.specs.declared.uint128.Ordering.{Ordering}
-use Rattle.amount.specs.declared.uint128.Ordering.TheVariants.{Less, Equal, Greater}
+use Rattle.std.specs.declared.cmp.Ordering.{Ordering}
+use Rattle.std.specs.declared.cmp.Ordering.TheVariants.{Less, Equal, Greater}
 use Rattle.sheet.specs.Fields.{Field, Sight, sight_of, field, subject, unit}
 use Rattle.registry.specs.Readers.{text_in, text_of, amount_in, amount_of, given_or, readable, on_amount}
 use Rattle.registry.specs.declared.error.ProfileError.{ProfileError}
 use Rattle.registry.specs.declared.error.ProfileError.TheVariants.{UnknownOperation, Born, Unborn, NonPositiveAmount, InsufficientQuantity, OverMaximum, Overflow, Underflow}
-use Rattle.registry.specs.declared.error.Outcome.{Outcome}
-use Rattle.registry.specs.declared.error.Outcome.TheVariants.{Accepted, Refused}
-use Rattle.registry.specs.declared.error.Reading.{Reading}
+use Rattle.registry.specs.Refusals.{Outcome, Reading}
 
 -- one test after another: the first refusal
 abbrev pub ◌then◌ : Outcome → Outcome → Outcome
-Accepted then b = b
-(Refused e) then b = Refused e
+(Ok _) then b = b
+(Err e) then b = Err e
 
 infixr 30 ◌then◌
 -- 5 and 6
 unfoldable pub state_absent : Bool → Outcome
-state_absent there = cond there (Refused Born) Accepted
+state_absent there = cond there (Err Born) (Ok tt)
 
 unfoldable pub state_there : Bool → Outcome
-state_there there = cond there Accepted (Refused Unborn)
+state_there there = cond there (Ok tt) (Err Unborn)
 
 -- 14
 unfoldable pub above_zero : Amount → Outcome
-above_zero a = cond (eqb (val a.mantissa) 0) (Refused NonPositiveAmount) Accepted
+above_zero a = cond (eqb (val a.mantissa) 0) (Err NonPositiveAmount) (Ok tt)
 
 abbrev pub unless_less : Ordering → ProfileError → Outcome
-unless_less Less e = Refused e
-unless_less Equal e = Accepted
-unless_less Greater e = Accepted
+unless_less Less e = Err e
+unless_less Equal e = Ok tt
+unless_less Greater e = Ok tt
 
 -- 15: the request is above what is held
 unfoldable pub held_by : Amount → Amount → Outcome
@@ -97,12 +95,12 @@ module _ (read : ℕ → Field → Reading) (st : Sight) (inp : ℕ → Field) w
 
   -- the first test that is not passed is the answer
   abbrev pub first : List Test → Outcome
-  first [] = Accepted
+  first [] = Ok tt
   first (t ∷ ts) = meets t then first ts
 
   -- the tests of the operation's row; 4 where there is none
   abbrev pub ruled : ℕ → List Row → Outcome
-  ruled op [] = Refused UnknownOperation
+  ruled op [] = Err UnknownOperation
   ruled op (r ∷ rs) = cond (among op r.operations) (first r.tests) (ruled op rs)
 
 -- the answer of a list over two sheets, amounts read as document 01 reads them

@@ -1,4 +1,5 @@
-// Document 01's profiles and operations by their numbers.
+// Document 01's profiles and operations by their numbers, as C gives them: an enum would be the list once more, and a conversion that
+// refuses the rest before `check` may.
 pub const STACK: u8 = 1;
 
 pub const BALANCE: u8 = 2;

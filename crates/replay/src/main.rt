@@ -3,244 +3,209 @@
 // byte of the buffer is compared. tools/replay_expected.py counts what must be printed from the list alone.
 #![tactic(auto)]
 
-ghost use Rattle.std.specs.Prelude.{◌≡◌, ◌≤◌, IfOk, length};
+ghost use Rattle.std.specs.Prelude.{◌<◌, IfSome, length};
 
-use amount::Amount;
-use registry::error::Answer;
+use registry::error::{Answer, NARROW};
 use std::io;
 use std::io::{BufWriter, Read, Write};
+use tally::{Judge, Row, Tally};
 
 // The list is read up to here.
-const READ_BYTES: usize = 1048576;
+const READ_BYTES: u64 = 1048576;
 
-// The calls.
-const CHECK: u8 = 1;
-
-const APPLY: u8 = 2;
-
-const CREDIT: u8 = 3;
-
-// The flag of a recorded difference.
-const DIFFERENCE: u8 = 2;
-
-// The largest number of a refusal.
-const LAST: u8 = 20;
+// The bytes of an answer, but for what it wrote.
+const ANSWER_BYTES: usize = 38;
 
 // The bytes of the space whose first part is lent as the buffer. The list's longest has 600.
 const SPACE: usize = 1024;
 
-// The counts stand in pairs, equal and unequal: those of the numbers 0 to 20, of the three flags, and of all.
-const COUNTS: usize = 50;
+// An answer's number is 0 or a refusal's.
+const NUMBERS: usize = NARROW as usize + 1;
 
-const FLAGS: usize = 21;
+// ---- records
 
-const ALL: usize = 24;
-
-// Where the expected answer stands in a record: after 11 bytes and the three sheets.
-fn answer_at(r: &[u8]) -> usize
-    ensures { result ≤ 200000 }
-{
-    let state = sheet::u16_at(r, 3) as usize;
-    let destination = sheet::u16_at(r, 5) as usize;
-    let input = sheet::u16_at(r, 7) as usize;
-    11 + state + destination + input
+#[derive(Clone, Copy)]
+enum Call {
+    Check,
+    Apply,
+    Credit,
 }
 
-// The length of the record that the bytes start with; 0 where they start with none.
-fn size(r: &[u8]) -> usize
-    ensures { result ≤ length r.now }
-{
-    let at = answer_at(r);
-    let flag = at + 38 + sheet::u16_at(r, at + 36) as usize;
-    if r.len() <= flag {
-        return 0;
+fn call_of(byte: u8) -> Option<Call> {
+    match byte {
+        1 => Some(Call::Check),
+        2 => Some(Call::Apply),
+        3 => Some(Call::Credit),
+        _ => None,
     }
-    let call = sheet::byte(r, 0);
-    if call < CHECK || call > CREDIT {
-        return 0;
-    }
-    if sheet::byte(r, at) > LAST || sheet::byte(r, flag) > DIFFERENCE {
-        return 0;
-    }
-    flag + 1
 }
 
-// What the library says.
-fn answer(r: &[u8], out: &mut [u8]) -> Answer {
-    let x = sheet::u16_at(r, 3) as usize;
-    let y = sheet::u16_at(r, 5) as usize;
-    let z = sheet::u16_at(r, 7) as usize;
-    let state = sheet::part(r, 11, x);
-    let destination = sheet::part(r, 11 + x, y);
-    let input = sheet::part(r, 11 + x + y, z);
-    let call = sheet::byte(r, 0);
-    let profile = sheet::byte(r, 1);
-    let operation = sheet::byte(r, 2);
-    if call == CHECK {
-        return credits::credits_check(profile, operation, state, input);
+// Whose answer was recorded. A difference is document 01's, where the Rust has another.
+#[derive(Clone, Copy, PartialEq, Eq)]
+enum Source {
+    Rust,
+    Layer,
+    Difference,
+}
+
+fn source_of(byte: u8) -> Option<Source> {
+    match byte {
+        0 => Some(Source::Rust),
+        1 => Some(Source::Layer),
+        2 => Some(Source::Difference),
+        _ => None,
     }
-    if call == APPLY {
-        return credits::credits_apply(profile, operation, state, input, out);
+}
+
+// What is asked: a call, and how many bytes of buffer it is lent; and the answer that is expected, with what it writes.
+#[derive(Clone, Copy)]
+struct Record<'a> {
+    call: Call,
+    profile: u8,
+    operation: u8,
+    state: &'a [u8],
+    destination: &'a [u8],
+    input: &'a [u8],
+    room: usize,
+    answer: &'a [u8; ANSWER_BYTES],
+    written: &'a [u8],
+    source: Source,
+}
+
+impl<'a> Record<'a> {
+    // The record that the bytes start with, and what follows it.
+    fn split(s: &'a [u8]) -> Option<(Record<'a>, &'a [u8])>
+        ensures { IfSome result (λ p. length p.1.now < length s.now) }
+    {
+        let (head, s) = s.split_first_chunk::<11>()?;
+        let (state, s) = s.split_at_checked(sheet::u16_at(head, 3) as usize)?;
+        let (destination, s) = s.split_at_checked(sheet::u16_at(head, 5) as usize)?;
+        let (input, s) = s.split_at_checked(sheet::u16_at(head, 7) as usize)?;
+        let (answer, s) = s.split_first_chunk::<ANSWER_BYTES>()?;
+        let (written, s) = s.split_at_checked(sheet::u16_at(answer, 36) as usize)?;
+        let (source, s) = s.split_first()?;
+        if NARROW < answer[0] {
+            return None;
+        }
+        let record = Record {
+            call: call_of(head[0])?,
+            profile: head[1],
+            operation: head[2],
+            state,
+            destination,
+            input,
+            room: sheet::u16_at(head, 9) as usize,
+            answer,
+            written,
+            source: source_of(*source)?,
+        };
+        Some((record, s))
     }
-    credits::credits_credit(operation, state, destination, input, out)
-}
 
-fn same_amount(a: Amount, b: Amount) -> bool {
-    let m = a.mantissa;
-    let n = b.mantissa;
-    m.hi == n.hi && m.lo == n.lo && a.scale == b.scale
-}
+    // What the library says.
+    fn ask(&self, out: &mut [u8]) -> Answer {
+        match self.call {
+            Call::Check => {
+                credits::credits_check(self.profile, self.operation, self.state, self.input)
+            }
+            Call::Apply => {
+                credits::credits_apply(self.profile, self.operation, self.state, self.input, out)
+            }
+            Call::Credit => credits::credits_credit(
+                self.operation,
+                self.state,
+                self.destination,
+                self.input,
+                out,
+            ),
+        }
+    }
 
-// `e` holds the answer that is expected.
-fn same_answer(e: &[u8], a: Answer) -> bool {
-    let available = a.available;
-    let requested = a.requested;
-    a.number == sheet::byte(e, 0)
-        && a.detail == sheet::byte(e, 1)
-        && same_amount(available, sheet::amount_at(e, 2))
-        && same_amount(requested, sheet::amount_at(e, 19))
-        && a.length == sheet::u16_at(e, 36)
-}
+    fn expects(&self, a: Answer) -> bool {
+        let e = self.answer;
+        a.number == e[0]
+            && a.detail == e[1]
+            && e[2..19] == sheet::amount_bytes(a.available)[..]
+            && e[19..36] == sheet::amount_bytes(a.requested)[..]
+            && a.length == sheet::u16_at(e, 36)
+    }
 
-// Whether the space holds what was written, and behind it what it held before.
-fn same_bytes(space: &[u8], written: &[u8], fill: u8) -> bool {
-    for i in 0..space.len() {
-        let expected = if i < written.len() { written[i] } else { fill };
-        if space[i] != expected {
+    // Whether the library answers as the record says, on a buffer that holds `fill` at first, and leaves what stands behind what it writes.
+    fn holds_over(&self, fill: u8) -> bool {
+        let mut space = [fill; SPACE];
+        if SPACE < self.room {
             return false;
         }
+        let a = self.ask(&mut space[..self.room]);
+        self.expects(a)
+            && space
+                .strip_prefix(self.written)
+                .is_some_and(|rest| rest.iter().all(|b| *b == fill))
     }
-    true
-}
 
-// Whether the library answers as the record says, on a buffer that holds `fill` at first.
-fn same_over(r: &[u8], space: &mut [u8], fill: u8) -> bool {
-    let room = sheet::u16_at(r, 9) as usize;
-    if space.len() < room {
-        return false;
-    }
-    let a = answer(r, &mut space[..room]);
-    let at = answer_at(r);
-    let e = sheet::part(r, at, 38);
-    let written = sheet::part(r, at + 38, sheet::u16_at(e, 36) as usize);
-    same_answer(e, a) && same_bytes(space, written, fill)
-}
-
-// Twice, since a byte that is written in error may be the one that was there.
-fn same(r: &[u8]) -> bool {
-    let mut first = [85u8; SPACE];
-    let mut second = [170u8; SPACE];
-    same_over(r, &mut first, 85) && same_over(r, &mut second, 170)
-}
-
-fn count(counts: &mut [u64; COUNTS], row: usize, equal: bool) {
-    if row >= COUNTS / 2 {
-        return;
-    }
-    let i = if equal { 2 * row } else { 2 * row + 1 };
-    if i < COUNTS {
-        counts[i] = counts[i].wrapping_add(1);
+    // Twice, since a byte that is written in error may be the one that was there.
+    fn holds(&self) -> bool {
+        self.holds_over(85) && self.holds_over(170)
     }
 }
 
-// The recorded differences are left out of their number's counts.
-fn tally(counts: &mut [u64; COUNTS], number: u8, flag: u8, equal: bool) {
-    if flag != DIFFERENCE {
-        count(counts, number as usize, equal);
-    }
-    count(counts, FLAGS + flag as usize, equal);
-    count(counts, ALL, equal);
+// ---- counts
+
+// By the answers' numbers, by who gave them, and all. The recorded differences are left out of their number's counts.
+#[derive(Clone, Copy, Default)]
+struct Counts {
+    numbers: Tally<NUMBERS>,
+    rust: Row,
+    layer: Row,
+    differences: Row,
+    all: Row,
 }
 
-// Puts one record to the library.
-fn judge(out: &mut impl Write, r: &[u8], at: usize, counts: &mut [u64; COUNTS]) -> io::Result<()> {
-    let answer = answer_at(r);
-    let flag = sheet::byte(r, answer + 38 + sheet::u16_at(r, answer + 36) as usize);
-    let equal = same(r);
-    if !equal {
-        writeln!(out, "unequal: the record at byte {at}")?;
-    }
-    tally(counts, sheet::byte(r, answer), flag, equal);
-    Ok(())
-}
-
-// Puts each record to the library, and answers how many bytes are left over.
-fn judge_all(out: &mut impl Write, s: &[u8], counts: &mut [u64; COUNTS]) -> io::Result<usize> {
-    let mut at: usize = 0;
-    while at < s.len() {
-        let r = &s[at..];
-        let n = size(r);
-        if n == 0 {
-            return Ok(s.len() - at);
+impl Counts {
+    fn count(&mut self, r: Record, equal: bool) {
+        match r.source {
+            Source::Rust => self.rust.count(equal),
+            Source::Layer => self.layer.count(equal),
+            Source::Difference => self.differences.count(equal),
         }
-        judge(out, r, at, counts)?;
-        at += n;
-    }
-    Ok(0)
-}
-
-fn count_at(counts: &[u64; COUNTS], i: usize) -> u64 {
-    if i < COUNTS { counts[i] } else { 0 }
-}
-
-fn print_row(out: &mut impl Write, counts: &[u64; COUNTS], row: usize) -> io::Result<()> {
-    if row >= COUNTS / 2 {
-        return Ok(());
-    }
-    let equal = count_at(counts, 2 * row);
-    let unequal = count_at(counts, 2 * row + 1);
-    writeln!(out, ": {equal} equal, {unequal} unequal")
-}
-
-fn print_numbers(out: &mut impl Write, counts: &[u64; COUNTS]) -> io::Result<()> {
-    for row in 0..FLAGS {
-        write!(out, "number {row}")?;
-        print_row(out, counts, row)?;
-    }
-    Ok(())
-}
-
-fn print_counts(out: &mut impl Write, counts: &[u64; COUNTS]) -> io::Result<()> {
-    print_numbers(out, counts)?;
-    write!(out, "from the Rust")?;
-    print_row(out, counts, FLAGS)?;
-    write!(out, "from the layer over it")?;
-    print_row(out, counts, FLAGS + 1)?;
-    write!(out, "recorded differences, to document 01")?;
-    print_row(out, counts, FLAGS + 2)?;
-    write!(out, "all records")?;
-    print_row(out, counts, ALL)
-}
-
-// Room for the list. The contract says its length alone, so that no proof counts its bytes.
-fn room() -> [u8; READ_BYTES]
-    ensures { 1048576 ≡ length result }
-{
-    [0; READ_BYTES]
-}
-
-// Reads until the room is full or the input ends: how many bytes came.
-fn read_full(input: &mut impl Read, room: &mut [u8]) -> io::Result<usize>
-    ensures { IfOk result (λ n. n ≤ length room.old) }
-{
-    let mut n = 0;
-    while n < room.len() {
-        let more = input.read(&mut room[n..])?;
-        if more == 0 {
-            return Ok(n);
+        if r.source != Source::Difference {
+            self.numbers.count(r.answer[0] as usize, equal);
         }
-        n += more;
+        self.all.count(equal);
     }
-    Ok(n)
+
+    fn print(&self, out: &mut impl Write) -> io::Result<()> {
+        for (number, row) in self.numbers.rows.iter().enumerate() {
+            writeln!(out, "number {number}: {row}")?;
+        }
+        writeln!(out, "from the Rust: {}", self.rust)?;
+        writeln!(out, "from the layer over it: {}", self.layer)?;
+        writeln!(
+            out,
+            "recorded differences, to document 01: {}",
+            self.differences
+        )?;
+        writeln!(out, "all records: {}", self.all)
+    }
+}
+
+impl Judge for Counts {
+    fn judge<'a>(&mut self, s: &'a [u8]) -> Option<(bool, &'a [u8])> {
+        let (r, rest) = Record::split(s)?;
+        let equal = r.holds();
+        self.count(r, equal);
+        Some((equal, rest))
+    }
 }
 
 fn main(rt: HostRuntime) -> io::Result<()> {
-    let mut list = room();
-    let n = read_full(&mut rt.reader(), &mut list)?;
+    let mut list = Vec::new(rt.alloc());
+    rt.reader().take(READ_BYTES).read_to_end(&mut list)?;
     let mut out = BufWriter::new(rt.alloc(), io::writer(&rt))?;
-    let mut counts = [0u64; COUNTS];
-    let rest = judge_all(&mut out, &list[..n], &mut counts)?;
-    print_counts(&mut out, &counts)?;
+    let mut counts = Counts::default();
+    let rest = tally::judge_all(&mut out, &list, &mut counts)?;
+    counts.print(&mut out)?;
+    let n = list.len();
     writeln!(out, "bytes {n}, left over {rest}")?;
     out.flush()
 }

@@ -6,7 +6,7 @@ use native.Mathlib.Omega.{arith}
 use native.Mathlib.Nat.{div-one}
 use borrow.Author.Tests.{lt-ltb, le-ltb}
 use lib.Count.{ones, ones_step, ones-le}
-use lib.ListN.{take}
+use lib.ListN.{length, take}
 use lib.Seq.{take-append_seam}
 use Rattle.amount.specs.Numbers.{val, halves}
 use Rattle.amount.specs.Canonical.{whole_text, width_of, width_up_to, last_digits, strip, decimal_text, canonical_text, as_text}
@@ -36,9 +36,9 @@ three_digits n g h =
 
 -- ---- the text of an amount
 
-pub few_bytes : (a : Amount) (t : Text) → a.scale ≡ 0 → t ≡ as_text (canonical_text a) → t.len ≤ 39
-unfolding as_text canonical_text strip decimal_text
-few_bytes a t z e = rw (e, z) (omega (arith, whole_length (val (halves (val a.mantissa))), width_few (val (halves (val a.mantissa)))))
+pub few_bytes : (a : Amount) → a.scale ≡ 0 → length (canonical_text a) ≤ 39
+unfolding canonical_text strip decimal_text
+few_bytes a z = rw z (omega (arith, whole_length (val (halves (val a.mantissa))), width_few (val (halves (val a.mantissa)))))
 
 pub first_bytes : (l : List ℕ) (t : Text) → t ≡ as_text l → take t.len t.bytes ≡ l
 unfolding as_text

@@ -8,7 +8,7 @@ use native.Mathlib.Nat.{zero-add}
 use native.Mathlib.Omega.{arith}
 use lib.Dec.{leb}
 use lib.ListN.{length, take}
-use lib.Seq.{sets-eq, take-append_seam}
+use lib.Seq.{sets, sets-eq, take-append_seam}
 use borrow.Author.Tests.{le-leb, lt-leb, leb-true, eq-eqb, ne_eqb}
 use Rattle.writer.specs.Encode.{put_into}
 use Rattle.book.specs.Book.{is_well_formed}
@@ -19,7 +19,7 @@ use Rattle.session.proofs.Walking.{good_count}
 use Rattle.session.proofs.Standing.{count_answers}
 use Rattle.session.proofs.Theorems.{good_run_is, bad_does_nothing, book_fits}
 use Rattle.report.specs.Listing.{step_lines, place_lines, last_line, bad_text, listing_text, listing_of, length_in}
-use Rattle.report.specs.Writing.{run_text, Wrote}
+use Rattle.report.specs.Writing.{run_text}
 
 -- ---- a session and its run
 
@@ -55,13 +55,10 @@ pub too_short : (w old : List ℕ) → length old < length w → (0 ≡ length_i
 unfolding length_in put_into
 too_short w old h = rw (lt-leb (length w) (length old) h) (refl, refl)
 
-pub all_fits : (w old new : List ℕ) (r : ℕ) → length w ≤ length old → Wrote old 0 w new r → (r ≡ length_in w old) × (new ≡ put_into w old)
+pub all_fits : (w old new : List ℕ) (r : ℕ) → length w ≤ length old → r ≡ length w → new ≡ sets old 0 w → (r ≡ length_in w old) × (new ≡ put_into w old)
 unfolding length_in put_into
-all_fits w old new r h o =
-    rw (le-leb (length w) (length old) h) (
-      o.behind ∙ zero-add (length w),
-      o.bytes ∙ sets-eq w old 0 (omega arith) ∙ rw zero-add,
-    )
+all_fits w old new r h behind bytes =
+    rw (le-leb (length w) (length old) h) (behind, bytes ∙ sets-eq w old 0 (omega arith) ∙ rw zero-add)
 
 -- a caller may read as many bytes as it is told
 in_case : (t : Bool) (w old : List ℕ) → leb (length w) (length old) ≡ t → cond t (length w) 0 ≤ length old

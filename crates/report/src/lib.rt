@@ -8,7 +8,7 @@ ghost use Rattle.report.specs.Listing.{listing_of, length_in};
 use session::running;
 
 mod lines;
-mod text;
+mod page;
 
 // The listing of a session, and its length; 0 and no byte written where the buffer is too short. 4,096 bytes are always enough.
 pub fn listing(session: &[u8], out: &mut [u8]) -> u16
@@ -19,9 +19,9 @@ pub fn listing(session: &[u8], out: &mut [u8]) -> u16
     let run = running::run(session);
     // measured first, by writing it nowhere
     let mut nowhere = [0u8; 1];
-    let len = lines::put_listing(&mut nowhere, run);
+    let len = lines::put_listing(&mut nowhere, &run);
     if out.len() < len {
         return 0;
     }
-    lines::put_listing(out, run) as u16
+    lines::put_listing(out, &run) as u16
 }

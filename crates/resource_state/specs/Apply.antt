@@ -4,10 +4,9 @@ use Rattle.sheet.specs.Fields.{Field, field, Sight, sight_of, subject, unit, qua
 use Rattle.registry.specs.Readers.{amount_in}
 use Rattle.registry.specs.Tests.{Test, born, in_text, in_amount, st_text, st_amount, can_add, can_subtract}
 use Rattle.registry.specs.Call.{called}
-use Rattle.registry.specs.declared.error.Reading.{Reading}
-use Rattle.resource_state.specs.Next.{Gives, zero, given, kept, the_sum, the_difference, lesser, Makes, a_stack, a_balance, a_meter, ApplyRow, apply_row, unless_refused, applied}
+use Rattle.registry.specs.Refusals.{Reading}
+use Rattle.resource_state.specs.Next.{Gives, zero, given, kept, the_sum, the_difference, lesser, Makes, a_stack, a_balance, a_meter, ApplyRow, apply_row, unless_refused, applied, Next}
 use Rattle.resource_state.specs.declared.Part.TheVariants.{State, Input}
-use Rattle.resource_state.specs.declared.Next.{Next}
 
 -- born, st subject, st unit
 abbrev pub holding : List Test

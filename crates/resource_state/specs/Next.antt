@@ -1,22 +1,18 @@
 -- Document 01, section "Operations", Apply: the next state as data, and the tests that come before it.
-use Rattle.std.specs.Prelude.{cond, List, [], ◌∷◌, ℕ}
+use Rattle.std.specs.Prelude.{cond, List, [], ◌∷◌, ℕ, Result, Ok, Err}
 use Rattle.amount.specs.Amounts.{min_of}
 use Rattle.amount.specs.declared.Amount.{Amount}
 use Rattle.writer.specs.Encode.{stack_sheet, balance_sheet, meter_sheet}
 use Rattle.sheet.specs.Fields.{Field, Sight}
-use Rattle.registry.specs.Refusals.{zero_amount}
+use Rattle.registry.specs.Refusals.{zero_amount, Outcome, Reading}
 use Rattle.registry.specs.Readers.{amount_of, bytes_of, read_amount}
 use Rattle.registry.specs.Tests.{Test, among, first, plus, less}
+use Rattle.registry.specs.declared.error.ProfileError.{ProfileError}
 use Rattle.registry.specs.declared.error.ProfileError.TheVariants.{UnknownOperation}
-use Rattle.registry.specs.declared.error.Outcome.{Outcome}
-use Rattle.registry.specs.declared.error.Outcome.TheVariants.{Accepted, Refused}
-use Rattle.registry.specs.declared.error.Reading.{Reading}
-use Rattle.registry.specs.declared.error.Reading.TheVariants.{Given, Failed}
 use Rattle.resource_state.specs.declared.Part.{Part}
 use Rattle.resource_state.specs.declared.Part.TheVariants.{State, Input}
 use Rattle.resource_state.specs.declared.ResourceState.{ResourceState}
 use Rattle.resource_state.specs.declared.ResourceState.TheVariants.{ConsumableStack, FungibleBalance, MeteredResource}
-use Rattle.resource_state.specs.declared.Next.{Next}
 
 -- THE AMOUNTS of a next state, by the names of fields: the input's, the state's as it was, arithmetic on the two
 pub data Gives : Type 0 where
@@ -42,10 +38,14 @@ pub record ApplyRow : Type 0 where
 abbrev pub apply_row : List ℕ → List Test → Makes → ApplyRow
 apply_row operations tests makes = record { operations = operations; tests = tests; makes = makes }
 
+-- a next state, or why there is none
+abbrev pub Next : Type 0
+Next = Result ResourceState ProfileError
+
 -- a next state, where the tests are passed
 abbrev pub unless_refused : Outcome → Next → Next
-unless_refused Accepted n = n
-unless_refused (Refused e) n = Next.Refused e
+unless_refused (Ok _) n = n
+unless_refused (Err e) n = Err e
 
 abbrev pub stack_of : Part → Part → Amount → ResourceState
 stack_of subject unit quantity = ConsumableStack (record { subject = subject; quantity = quantity; unit = unit })
@@ -79,8 +79,8 @@ module _ (read : ℕ → Field → Reading) (st : Sight) (inp : ℕ → Field) w
 
   -- the tests of the operation's row, then its next state; 4 where there is no row
   abbrev pub applied : ℕ → List ApplyRow → Next
-  applied op [] = Next.Refused UnknownOperation
-  applied op (r ∷ rs) = cond (among op r.operations) (unless_refused (first read st inp r.tests) (Next.State (made r.makes))) (applied op rs)
+  applied op [] = Err UnknownOperation
+  applied op (r ∷ rs) = cond (among op r.operations) (unless_refused (first read st inp r.tests) (Ok (made r.makes))) (applied op rs)
 
 -- the text that a part stands for
 abbrev pub text_from : (ℕ → Field) → (ℕ → Field) → Part → List ℕ
@@ -95,5 +95,5 @@ sheet_of st inp (MeteredResource s) = meter_sheet (text_from st inp s.subject) s
 
 -- a next state with an amount that was read
 abbrev pub with_amount : Reading → (Amount → ResourceState) → Next
-with_amount (Given a) make = Next.State (make a)
-with_amount (Failed e) make = Next.Refused e
+with_amount (Ok a) make = Ok (make a)
+with_amount (Err e) make = Err e

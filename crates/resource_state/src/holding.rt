@@ -2,43 +2,47 @@
 ghost use Rattle.std.specs.Prelude.{◌≡◌};
 ghost use Rattle.sheet.specs.Fields.{field, sight_of, subject, unit};
 ghost use Rattle.registry.specs.Readers.{amount_in};
-ghost use Rattle.resource_state.specs.Next.{with_amount, stack_of, balance_of};
+ghost use Rattle.resource_state.specs.Next.{stack_of, balance_of, with_amount};
 ghost use Rattle.resource_state.specs.Apply.{stack_next, balance_next};
 
 use super::amounts::{adjusted, converted, created, credited, debited, expired, transferred};
-use super::{ConsumableStackState, FungibleBalanceState, Next, Part, ResourceState};
-use registry::error::{ProfileError, Reading};
+use super::{ConsumableStackState, FungibleBalanceState, Part, ResourceState};
+use amount::Amount;
+use registry::error::ProfileError;
 use registry::op;
 use sheet::{AMOUNT, BALANCE, QUANTITY, SUBJECT, TO_UNIT, UNIT};
 
-// A stack with these texts and the amount that was read.
-pub fn stack(subject: Part, unit: Part, quantity: Reading) -> Next
+// A stack with these texts and the amount that was read. `balance` makes another variant of other fields, the Rust's.
+pub fn stack(
+    subject: Part,
+    unit: Part,
+    quantity: Result<Amount, ProfileError>,
+) -> Result<ResourceState, ProfileError>
     ensures { result ≡ with_amount quantity (stack_of subject unit) }
 {
-    match quantity {
-        Reading::Given(a) => Next::State(ResourceState::ConsumableStack(ConsumableStackState {
-            subject,
-            quantity: a,
-            unit,
-        })),
-        Reading::Failed(e) => Next::Refused(e),
-    }
+    quantity.map(|quantity| ResourceState::ConsumableStack(ConsumableStackState {
+        subject,
+        quantity,
+        unit,
+    }))
 }
 
-pub fn balance(subject: Part, unit: Part, amount: Reading) -> Next
+pub fn balance(
+    subject: Part,
+    unit: Part,
+    amount: Result<Amount, ProfileError>,
+) -> Result<ResourceState, ProfileError>
     ensures { result ≡ with_amount amount (balance_of subject unit) }
 {
-    match amount {
-        Reading::Given(a) => Next::State(ResourceState::FungibleBalance(FungibleBalanceState {
-            subject,
-            balance: a,
-            unit,
-        })),
-        Reading::Failed(e) => Next::Refused(e),
-    }
+    amount.map(|balance| ResourceState::FungibleBalance(FungibleBalanceState {
+        subject,
+        balance,
+        unit,
+    }))
 }
 
-pub fn apply_stack(operation: u8, state: &[u8], input: &[u8]) -> Next
+#[tactic(auto, unfolding(crate::specs::Apply::stack_next))]
+pub fn apply_stack(operation: u8, state: &[u8], input: &[u8]) -> Result<ResourceState, ProfileError>
     ensures { result ≡ stack_next amount_in (sight_of state.now) (field input.now) operation }
 {
     let op = operation;
@@ -56,11 +60,16 @@ pub fn apply_stack(operation: u8, state: &[u8], input: &[u8]) -> Next
         op::STACK_RELEASE => stack_with(credited(state, input, QUANTITY, QUANTITY)),
         op::STACK_EXPIRE => stack_with(expired(state)),
         op::STACK_ADJUST => stack_with(adjusted(state, input, QUANTITY)),
-        _ => Next::Refused(ProfileError::UnknownOperation),
+        _ => Err(ProfileError::UnknownOperation),
     }
 }
 
-pub fn apply_balance(operation: u8, state: &[u8], input: &[u8]) -> Next
+#[tactic(auto, unfolding(crate::specs::Apply::balance_next))]
+pub fn apply_balance(
+    operation: u8,
+    state: &[u8],
+    input: &[u8],
+) -> Result<ResourceState, ProfileError>
     ensures { result ≡ balance_next amount_in (sight_of state.now) (field input.now) operation }
 {
     let op = operation;
@@ -83,18 +92,18 @@ pub fn apply_balance(operation: u8, state: &[u8], input: &[u8]) -> Next
             Part::Input(TO_UNIT),
             converted(state, input),
         ),
-        _ => Next::Refused(ProfileError::UnknownOperation),
+        _ => Err(ProfileError::UnknownOperation),
     }
 }
 
 // The state with another amount.
-fn stack_with(quantity: Reading) -> Next
+fn stack_with(quantity: Result<Amount, ProfileError>) -> Result<ResourceState, ProfileError>
     ensures { result ≡ with_amount quantity (stack_of (Part.State subject) (Part.State unit)) }
 {
     stack(Part::State(SUBJECT), Part::State(UNIT), quantity)
 }
 
-fn balance_with(amount: Reading) -> Next
+fn balance_with(amount: Result<Amount, ProfileError>) -> Result<ResourceState, ProfileError>
     ensures { result ≡ with_amount amount (balance_of (Part.State subject) (Part.State unit)) }
 {
     balance(Part::State(SUBJECT), Part::State(UNIT), amount)

@@ -7,9 +7,8 @@ pub mod holding;
 pub mod meter;
 
 use amount::Amount;
-use registry::error::ProfileError;
 
-// A text of the next state: that of a field of the state, or of the input.
+// A text of the next state: that of a field of the state, or of the input. Each has a name, so it is no Option.
 #[derive(Clone, Copy)]
 pub enum Part {
     State(u8),
@@ -42,11 +41,4 @@ pub enum ResourceState {
     ConsumableStack(ConsumableStackState),
     FungibleBalance(FungibleBalanceState),
     MeteredResource(MeterState),
-}
-
-// The next state, or why there is none.
-#[derive(Clone, Copy)]
-pub enum Next {
-    State(ResourceState),
-    Refused(ProfileError),
 }

@@ -8,13 +8,14 @@ ghost use Rattle.resource_state.specs.Helpers.{amount_over, next_over};
 ghost use Rattle.resource_state.specs.Apply.{metering, lowering, meter_next};
 
 use super::amounts::lowered;
-use super::{MeterState, Next, Part, ResourceState};
+use super::{MeterState, Part, ResourceState};
 use amount::Amount;
-use registry::error::{Outcome, ProfileError, Reading};
+use registry::error::ProfileError;
 use registry::{input_amount, input_str, op, require_current, state_amount, state_str};
 use sheet::{AMOUNT, MAXIMUM, REMAINING, SUBJECT};
 
-pub fn apply_meter(operation: u8, state: &[u8], input: &[u8]) -> Next
+#[tactic(auto, unfolding(crate::specs::Apply::meter_next))]
+pub fn apply_meter(operation: u8, state: &[u8], input: &[u8]) -> Result<ResourceState, ProfileError>
     ensures { result ≡ meter_next amount_in (sight_of state.now) (field input.now) operation }
 {
     let op = operation;
@@ -25,102 +26,68 @@ pub fn apply_meter(operation: u8, state: &[u8], input: &[u8]) -> Next
         op::METER_SET_MAXIMUM => set_maximum(state, input),
         op::METER_RESET => reset(state),
         op::METER_EXPIRE => reset(state),
-        _ => Next::Refused(ProfileError::UnknownOperation),
+        _ => Err(ProfileError::UnknownOperation),
     }
 }
 
-fn meter(subject: Part, remaining: Amount, maximum: Amount) -> Next
-    ensures { result ≡ Next.State (meter_of subject remaining maximum) }
+fn meter(subject: Part, remaining: Amount, maximum: Amount) -> ResourceState
+    ensures { result ≡ meter_of subject remaining maximum }
 {
-    Next::State(ResourceState::MeteredResource(MeterState {
+    ResourceState::MeteredResource(MeterState {
         subject,
         remaining,
         maximum,
-    }))
+    })
 }
 
-fn create(input: &[u8]) -> Next
+fn create(input: &[u8]) -> Result<ResourceState, ProfileError>
     ensures { result ≡ next_over [] input.now (in_text subject ∷ in_amount remaining ∷ in_amount maximum ∷ []) (a_meter (Part.Input subject) (given remaining) (given maximum)) }
 {
-    if let Outcome::Refused(e) = input_str(input, SUBJECT) {
-        return Next::Refused(e);
-    }
-    let remaining = match input_amount(input, REMAINING) {
-        Reading::Given(a) => a,
-        Reading::Failed(e) => return Next::Refused(e),
-    };
-    let maximum = match input_amount(input, MAXIMUM) {
-        Reading::Given(a) => a,
-        Reading::Failed(e) => return Next::Refused(e),
-    };
-    meter(Part::Input(SUBJECT), remaining, maximum)
+    input_str(input, SUBJECT)?;
+    let remaining = input_amount(input, REMAINING)?;
+    let maximum = input_amount(input, MAXIMUM)?;
+    Ok(meter(Part::Input(SUBJECT), remaining, maximum))
 }
 
 // Born, st subject, st maximum.
-fn current_maximum(state: &[u8]) -> Reading
+fn current_maximum(state: &[u8]) -> Result<Amount, ProfileError>
     ensures { result ≡ amount_over state.now [] metering (kept maximum) }
 {
-    if let Outcome::Refused(e) = require_current(state) {
-        return Reading::Failed(e);
-    }
-    if let Outcome::Refused(e) = state_str(state, SUBJECT) {
-        return Reading::Failed(e);
-    }
+    require_current(state)?;
+    state_str(state, SUBJECT)?;
     state_amount(state, MAXIMUM)
 }
 
-fn consume(state: &[u8], input: &[u8]) -> Next
+fn consume(state: &[u8], input: &[u8]) -> Result<ResourceState, ProfileError>
     ensures { result ≡ next_over state.now input.now (metering ++ lowering remaining amount) (a_meter (Part.State subject) (the_difference remaining amount) (kept maximum)) }
 {
-    let maximum = match current_maximum(state) {
-        Reading::Given(a) => a,
-        Reading::Failed(e) => return Next::Refused(e),
-    };
-    let left = match lowered(state, input, REMAINING, AMOUNT) {
-        Reading::Given(a) => a,
-        Reading::Failed(e) => return Next::Refused(e),
-    };
-    meter(Part::State(SUBJECT), left, maximum)
+    let maximum = current_maximum(state)?;
+    let left = lowered(state, input, REMAINING, AMOUNT)?;
+    Ok(meter(Part::State(SUBJECT), left, maximum))
 }
 
-fn refill(state: &[u8]) -> Next
+fn refill(state: &[u8]) -> Result<ResourceState, ProfileError>
     ensures { result ≡ next_over state.now [] metering (a_meter (Part.State subject) (kept maximum) (kept maximum)) }
 {
-    let maximum = match current_maximum(state) {
-        Reading::Given(a) => a,
-        Reading::Failed(e) => return Next::Refused(e),
-    };
-    meter(Part::State(SUBJECT), maximum, maximum)
+    let maximum = current_maximum(state)?;
+    Ok(meter(Part::State(SUBJECT), maximum, maximum))
 }
 
 // On a tie remaining is kept as it was, its scale too.
-fn set_maximum(state: &[u8], input: &[u8]) -> Next
+fn set_maximum(state: &[u8], input: &[u8]) -> Result<ResourceState, ProfileError>
     ensures { result ≡ next_over state.now input.now (born ∷ st_text subject ∷ st_amount remaining ∷ in_amount maximum ∷ []) (a_meter (Part.State subject) (lesser maximum remaining) (given maximum)) }
 {
-    if let Outcome::Refused(e) = require_current(state) {
-        return Next::Refused(e);
-    }
-    if let Outcome::Refused(e) = state_str(state, SUBJECT) {
-        return Next::Refused(e);
-    }
-    let remaining = match state_amount(state, REMAINING) {
-        Reading::Given(a) => a,
-        Reading::Failed(e) => return Next::Refused(e),
-    };
-    let maximum = match input_amount(input, MAXIMUM) {
-        Reading::Given(a) => a,
-        Reading::Failed(e) => return Next::Refused(e),
-    };
-    meter(Part::State(SUBJECT), maximum.min(remaining), maximum)
+    require_current(state)?;
+    state_str(state, SUBJECT)?;
+    let remaining = state_amount(state, REMAINING)?;
+    let maximum = input_amount(input, MAXIMUM)?;
+    Ok(meter(Part::State(SUBJECT), maximum.min(remaining), maximum))
 }
 
 // Reset and expire leave nothing.
-fn reset(state: &[u8]) -> Next
+fn reset(state: &[u8]) -> Result<ResourceState, ProfileError>
     ensures { result ≡ next_over state.now [] metering (a_meter (Part.State subject) zero (kept maximum)) }
 {
-    let maximum = match current_maximum(state) {
-        Reading::Given(a) => a,
-        Reading::Failed(e) => return Next::Refused(e),
-    };
-    meter(Part::State(SUBJECT), Amount::ZERO, maximum)
+    let maximum = current_maximum(state)?;
+    Ok(meter(Part::State(SUBJECT), Amount::ZERO, maximum))
 }

@@ -20,8 +20,8 @@ use Rattle.session.specs.Session.{line_count, line_at, line_body_at, line_body, 
 use Rattle.session.specs.Entries.{entry_step}
 use Rattle.steps.specs.Turn.{with_sheet}
 use Rattle.steps.specs.declared.step.Step.{Step as Kind}
-use Rattle.session.specs.declared.layout.Entry.{Entry}
-use Rattle.session.specs.declared.layout.Entry.TheVariants as Read
+use Rattle.std.specs.Prelude.{Some, None, IsSome}
+use Rattle.std.specs.Prelude as std
 use Rattle.session.specs.declared.Line.{Line}
 use Rattle.session.specs.declared.StepAnswer.{StepAnswer}
 use Rattle.session.proofs.Walking.{good_count, good_fits}
@@ -53,15 +53,19 @@ later_step s g k h l =
     fits_step (line_at s k) _ (and_right (eqb (line_at s k).offset (line_body_at s k)) (step_fits (line_at s k)) f)
 
 -- what the code reads of entry k, l, as e
-module _ (s : List ℕ) (k : ℕ) {l : Line} {e : Entry} (l-is : l ≡ line_at s k) (e-is : (i : List ℕ) → entry_step e i ≡ step_of l i) where
-  pub read_step : {z : Kind} {d : List ℕ} → e ≡ Read.Step z → d ≡ line_body s l → step_at s k ≡ some (with_sheet z d)
-  read_step {z} {d} h d-is = rw (← l-is, ← d-is) (sym (e-is d) ∙ ap (λ (x : Entry). entry_step x d) h)
+module _ (s : List ℕ) (k : ℕ) {l : Line} {e : std.Option Kind} (l-is : l ≡ line_at s k) (e-is : (i : List ℕ) → entry_step e i ≡ step_of l i) where
+  pub read_step : {z : Kind} {d : List ℕ} → e ≡ Some z → d ≡ line_body s l → step_at s k ≡ some (with_sheet z d)
+  read_step {z} {d} h d-is = rw (← l-is, ← d-is) (sym (e-is d) ∙ ap (λ (x : std.Option Kind). entry_step x d) h)
 
-  pub never_none : good s ≡ true → 1 ≤ k → k < line_count s → e ≡ Read.NoStep → ⊥
+  never_none : good s ≡ true → 1 ≤ k → k < line_count s → e ≡ None → ⊥
   never_none g h m n =
       let i : List ℕ = line_body s (line_at s k) in
-      let w : step_at s k ≡ none = rw l-is at (sym (e-is i) ∙ ap (λ (x : Entry). entry_step x i) n) in
+      let w : step_at s k ≡ none = rw l-is at (sym (e-is i) ∙ ap (λ (x : std.Option Kind). entry_step x i) n) in
       false≢true (ap is_some (sym w) ∙ later_step s g k h m)
+
+pub is_read : (s : List ℕ) (k : ℕ) {l : Line} (e : std.Option Kind) → l ≡ line_at s k → ((i : List ℕ) → entry_step e i ≡ step_of l i) → good s ≡ true → 1 ≤ k → k < line_count s → IsSome e
+is_read s k (Some z) l-is e-is g h m = refl
+is_read s k None l-is e-is g h m = absurd (never_none s k l-is e-is g h m refl)
 
 -- ---- one step after another
 

@@ -1,5 +1,5 @@
 // The layout of a session, judged on any bytes.
-ghost use Rattle.std.specs.Prelude.{◌≡◌, ◌&&◌, List, eqb, ℕ, ◌+◌, ◌*◌, ◌<◌};
+ghost use Rattle.std.specs.Prelude.{◌≡◌, ◌&&◌, List, eqb, ℕ, ◌<◌};
 ghost use Rattle.session.specs.Session.{line_at, line_body, start_fits, step_fits, line_fits, sound_session, step_of};
 ghost use Rattle.session.specs.Entries.{entry_step};
 
@@ -9,28 +9,22 @@ use steps::Step;
 // The most entries of a session.
 const MAX_ENTRIES: usize = 256;
 
-// The step of an entry, without its body; another kind is none.
-#[derive(Clone, Copy)]
-pub enum Entry {
-    Step(Step),
-    NoStep,
-}
-
 // Entry k of the table.
+#[tactic(auto, unfolding(crate::specs::Session::line_at))]
 pub(crate) fn line_at(s: &[u8], k: usize) -> Line
     requires { k < 256 }
     ensures { result ≡ line_at s.now k }
 {
     let p = 2 + 8 * k;
     // one test where the whole entry is there
-    if p + 8 <= s.len() {
+    if let Some(e) = s.get(p..p + 8) {
         return Line {
-            kind: s[p],
-            a: s[p + 1],
-            b: s[p + 2],
-            t: s[p + 3],
-            offset: word(s[p + 4], s[p + 5]),
-            len: word(s[p + 6], s[p + 7]),
+            kind: e[0],
+            a: e[1],
+            b: e[2],
+            t: e[3],
+            offset: u16::from_le_bytes([e[4], e[5]]),
+            len: u16::from_le_bytes([e[6], e[7]]),
         };
     }
     Line {
@@ -50,17 +44,18 @@ pub(crate) fn body(s: &[u8], l: Line) -> &[u8]
     sheet::part(s, l.offset as usize, l.len as usize)
 }
 
-pub(crate) fn step_of(l: Line) -> Entry
+// The step of an entry, without its body; another kind is none.
+pub(crate) fn step_of(l: Line) -> Option<Step>
     ensures { (i : List ℕ) → entry_step result i ≡ step_of l i }
 {
     let kind = l.kind;
     match kind {
-        1 => Entry::Step(Step::Open(l.a)),
-        2 => Entry::Step(Step::Act(l.a, l.b)),
-        3 => Entry::Step(Step::Begin(l.a, l.b, l.t)),
-        4 => Entry::Step(Step::Finish(l.t)),
-        5 => Entry::Step(Step::Cancel(l.t)),
-        _ => Entry::NoStep,
+        1 => Some(Step::Open(l.a)),
+        2 => Some(Step::Act(l.a, l.b)),
+        3 => Some(Step::Begin(l.a, l.b, l.t)),
+        4 => Some(Step::Finish(l.t)),
+        5 => Some(Step::Cancel(l.t)),
+        _ => None,
     }
 }
 
@@ -79,59 +74,36 @@ pub(crate) fn is_sound(s: &[u8]) -> bool
         return false;
     }
     let mut at = 2 + 8 * n;
-    let mut k: usize = 0;
-    while k < n {
+    // by index, as `line_at` reads: an entry may be cut off
+    for k in 0..n {
         let l = line_at(s, k);
         if !line_fits(k, l, at) {
             return false;
         }
         at += l.len as usize;
-        k += 1;
     }
     at == s.len()
-}
-
-// Two bytes as a number, the low one first.
-fn word(lo: u8, hi: u8) -> u16
-    ensures { result ≡ lo + 256 * hi }
-{
-    lo as u16 + 256 * hi as u16
 }
 
 // Entry one is kind 0 and uses no field.
 fn start_fits(l: Line) -> bool
     ensures { result ≡ start_fits l }
 {
-    if l.kind != 0 {
-        return false;
-    }
-    if l.a != 0 {
-        return false;
-    }
-    open_fits(l)
+    l.kind == 0 && l.a == 0 && open_fits(l)
 }
 
 // An open uses a alone: its b and t are 0.
 fn open_fits(l: Line) -> bool
     ensures { result ≡ eqb l.b 0 && eqb l.t 0 }
 {
-    if l.b != 0 {
-        return false;
-    }
-    l.t == 0
+    l.b == 0 && l.t == 0
 }
 
 // A finish and a cancel use t alone, and have no body.
 fn end_fits(l: Line) -> bool
     ensures { result ≡ eqb l.a 0 && eqb l.b 0 && eqb l.len 0 }
 {
-    if l.a != 0 {
-        return false;
-    }
-    if l.b != 0 {
-        return false;
-    }
-    l.len == 0
+    l.a == 0 && l.b == 0 && l.len == 0
 }
 
 // A later entry; a second start is none of the steps.
@@ -143,8 +115,7 @@ fn step_fits(l: Line) -> bool
         1 => open_fits(l),
         2 => l.t == 0,
         3 => true,
-        4 => end_fits(l),
-        5 => end_fits(l),
+        4 | 5 => end_fits(l),
         _ => false,
     }
 }
@@ -156,8 +127,5 @@ fn line_fits(k: usize, l: Line, at: usize) -> bool
     if l.offset as usize != at {
         return false;
     }
-    if k == 0 {
-        return start_fits(l);
-    }
-    step_fits(l)
+    if k == 0 { start_fits(l) } else { step_fits(l) }
 }

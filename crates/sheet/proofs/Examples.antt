@@ -1,12 +1,12 @@
 -- Document 01's section "Sheets" on worked sheets, by computation.
 use mathlib.Core.Path.{◌≡◌, refl}
+use mathlib.Core.Bool.{true, false}
 use mathlib.Core.List.{List, [], ◌∷◌, map}
 use Prim.Native.Nat.{ℕ}
 use Rattle.sheet.specs.declared.Shape.TheVariants.{Input}
-use Rattle.sheet.specs.declared.Verdict.TheVariants.{Sound, Torn}
 use Rattle.sheet.specs.declared.State.TheVariants as State
 use Rattle.sheet.specs.Walk.{every, sum, prior}
-use Rattle.sheet.specs.Sheet.{entry_at, is_field, is_form, sound_as, verdict_of, state_of, entries_from, lookup}
+use Rattle.sheet.specs.Sheet.{entry_at, is_field, is_form, sound_as, state_of, entries_from, lookup}
 use Rattle.sheet.specs.Amounts.{amount_at}
 use Rattle.sheet.specs.Fields.{field, absent, text, figure, other}
 
@@ -35,7 +35,7 @@ abbrev pub held : List ℕ
 held = 3 ∷ 1 ∷ 1 ∷ 19 ∷ 0 ∷ 2 ∷ 0 ∷ 2 ∷ 1 ∷ 21 ∷ 0 ∷ 2 ∷ 0 ∷ 4 ∷ 3 ∷ 23 ∷ 0 ∷ 17 ∷ 0 ∷ 78 ∷ 49 ∷ 114 ∷ 100
     ∷ 12 ∷ 0 ∷ 0 ∷ 0 ∷ 0 ∷ 0 ∷ 0 ∷ 0 ∷ 0 ∷ 0 ∷ 0 ∷ 0 ∷ 0 ∷ 0 ∷ 0 ∷ 0 ∷ 1 ∷ []
 
-inputs : map (verdict_of Input) ([] ∷ (0 ∷ []) ∷ opened ∷ gap ∷ twice ∷ late ∷ placed ∷ held ∷ []) ≡ Torn ∷ Sound ∷ Sound ∷ Torn ∷ Torn ∷ Torn ∷ Sound ∷ Torn ∷ []
+inputs : map (sound_as Input) ([] ∷ (0 ∷ []) ∷ opened ∷ gap ∷ twice ∷ late ∷ placed ∷ held ∷ []) ≡ false ∷ true ∷ true ∷ false ∷ false ∷ false ∷ true ∷ false ∷ []
 unfolding sound_as every entry_at sum prior
 inputs = refl
 

@@ -1,19 +1,18 @@
 -- What the test of a state's form says: its three fields, one by one. `no_stack`, `no_balance` and `no_meter` say by which name a
 -- form is known.
-use mathlib.Core.Path.{◌≡◌, refl}
-use mathlib.Core.Bool.{Bool, true, false, ◌&&◌}
+use mathlib.Core.Path.{◌≡◌}
+use mathlib.Core.Bool.{true, false}
 use mathlib.Core.Logic.{◌≢◌}
 use mathlib.Core.List.{List}
 use Prim.Native.Nat.{ℕ, ◌+◌, ◌<◌}
 use native.Mathlib.Omega.{arith}
 use lib.ListN.{length, get_or}
-use lib.Dec.{eqb}
 use borrow.Author.Tests.{eqb-true, eq-eqb}
 use Rattle.sheet.specs.declared.Entry.{Entry}
 use Rattle.sheet.specs.declared.Form.{Form}
 use Rattle.sheet.specs.declared.Shape.TheVariants.{Stack, Balance, Meter}
 use Rattle.sheet.specs.Sheet.{entry_at, count, length_fits, sound_as, is_field, is_form, stack_form, balance_form, meter_form}
-use Rattle.sheet.proofs.Tables.{and_left, and_right}
+use Rattle.std.proofs.lemmas.Bool.{and_parts, false_from_ne_true}
 
 -- what the test of a field says
 pub record IsField (e : Entry) (name kind at : ℕ) : Type 0 where
@@ -25,17 +24,10 @@ pub record IsField (e : Entry) (name kind at : ℕ) : Type 0 where
 field_so : (e : Entry) (name kind at : ℕ) → is_field e name kind at ≡ true → IsField e name kind at
 unfolding is_field
 field_so e name kind at h =
-    let a : Bool = eqb e.name name in
-    let b : Bool = eqb e.kind kind in
-    let c : Bool = length_fits kind e.len in
-    let h₃ : (a && b && c) ≡ true = and_left (a && b && c) (eqb e.offset at) h in
-    let h₂ : (a && b) ≡ true = and_left (a && b) c h₃ in
-    record {
-      named = eqb-true e.name name (and_left a b h₂);
-      kinded = eqb-true e.kind kind (and_right a b h₂);
-      long = and_right (a && b) c h₃;
-      place = eqb-true e.offset at (and_right (a && b && c) (eqb e.offset at) h);
-    }
+    let p = and_parts _ _ h in
+    let q = and_parts _ _ p.0 in
+    let r = and_parts _ _ q.0 in
+    record { named = eqb-true _ _ r.0; kinded = eqb-true _ _ r.1; long = q.1; place = eqb-true _ _ p.1 }
 
 field_is : (e : Entry) (name kind at : ℕ) → IsField e name kind at → is_field e name kind at ≡ true
 unfolding is_field
@@ -54,23 +46,16 @@ module _ (f : Form) (s : List ℕ) where
   pub formed_so : is_form f s ≡ true → Formed f s
   unfolding is_form
   formed_so h =
-      let x : Entry = entry_at s 0 in
-      let y : Entry = entry_at s 1 in
-      let z : Entry = entry_at s 2 in
-      let n : Bool = eqb (count s) 3 in
-      let a : Bool = is_field x 1 1 19 in
-      let b : Bool = is_field y f.second f.kind (19 + x.len) in
-      let c : Bool = is_field z f.third 3 (19 + x.len + y.len) in
-      let d : Bool = eqb (19 + x.len + y.len + z.len) (length s) in
-      let h₄ : (n && a && b && c) ≡ true = and_left (n && a && b && c) d h in
-      let h₃ : (n && a && b) ≡ true = and_left (n && a && b) c h₄ in
-      let h₂ : (n && a) ≡ true = and_left (n && a) b h₃ in
+      let p = and_parts _ _ h in
+      let q = and_parts _ _ p.0 in
+      let r = and_parts _ _ q.0 in
+      let t = and_parts _ _ r.0 in
       record {
-        counted = eqb-true (count s) 3 (and_left n a h₂);
-        first = field_so x _ _ _ (and_right n a h₂);
-        second = field_so y _ _ _ (and_right (n && a) b h₃);
-        third = field_so z _ _ _ (and_right (n && a && b) c h₄);
-        ends = eqb-true _ (length s) (and_right (n && a && b && c) d h);
+        counted = eqb-true _ _ t.0;
+        first = field_so _ _ _ _ t.1;
+        second = field_so _ _ _ _ r.1;
+        third = field_so _ _ _ _ q.1;
+        ends = eqb-true _ _ p.1;
       }
 
   pub formed_is : Formed f s → is_form f s ≡ true
@@ -78,16 +63,9 @@ module _ (f : Form) (s : List ℕ) where
   formed_is w =
       rw (eq-eqb (count s) 3 w.counted, field_is _ _ _ _ w.first, field_is _ _ _ _ w.second, field_is _ _ _ _ w.third, eq-eqb _ (length s) w.ends)
 
-  no_form : is_form f s ≢ true → is_form f s ≡ false
-  no_form h = go (is_form f s) refl
-    where
-      go : (t : Bool) → is_form f s ≡ t → t ≡ false
-      go true e = absurd (h e)
-      go false e = refl
-
   -- its table alone has 19 bytes
   pub short_form : length s < 19 → is_form f s ≡ false
-  short_form h = no_form (λ e. omega (arith, (formed_so e).ends))
+  short_form h = false_from_ne_true _ (λ e. omega (arith, (formed_so e).ends))
 
   -- its third name is the form's
   pub third_is : Formed f s → get_or s 13 0 ≡ f.third
@@ -95,7 +73,7 @@ module _ (f : Form) (s : List ℕ) where
   third_is w = w.third.named
 
   only_third : get_or s 13 0 ≢ f.third → is_form f s ≡ false
-  only_third h = no_form (λ e. h (third_is (formed_so e)))
+  only_third h = false_from_ne_true _ (λ e. h (third_is (formed_so e)))
 
 module _ (s : List ℕ) where
   pub no_stack : get_or s 13 0 ≢ 3 → sound_as Stack s ≡ false

@@ -1,40 +1,22 @@
 -- "Bodies come next in table order, no gap, the last ending the sheet": in a sound sheet, each entry that lookup finds has a
 -- length of its kind, and its body lies inside the sheet. The theorem is `held`.
 use mathlib.Core.Path.{◌≡◌, sym, ◌∙◌, subst}
-use mathlib.Core.Bool.{Bool, true, ◌&&◌}
+use mathlib.Core.Bool.{true}
 use mathlib.Core.List.{List}
+use Rattle.std.specs.Prelude.{Some}
 use Prim.Native.Nat.{ℕ, zero, suc, ◌+◌, ◌≤◌, ◌<◌}
 use native.Mathlib.Omega.{arith}
 use lib.ListN.{length, drop, length-drop}
 use lib.Seq.{length-take-le}
-use lib.Dec.{eqb, ltb}
 use borrow.Author.Tests.{eqb-true}
 use Rattle.sheet.specs.declared.Entry.{Entry}
 use Rattle.sheet.specs.declared.Form.{Form}
 use Rattle.sheet.specs.declared.Shape.{Shape}
 use Rattle.sheet.specs.declared.Shape.TheVariants.{Input, Stack, Balance, Meter}
-use Rattle.sheet.specs.declared.Found.TheVariants.{At}
 use Rattle.sheet.specs.Walk.{sum}
-use Rattle.sheet.specs.Sheet.{
-  entry_at,
-  count,
-  lengths_to,
-  body_at,
-  name_before,
-  length_fits,
-  input_allowed,
-  entry_fits,
-  fits_at,
-  entries_fit,
-  sound_as,
-  stack_form,
-  balance_form,
-  meter_form,
-  table,
-  lookup,
-  part_of,
-}
-use Rattle.sheet.proofs.Tables.{and_left, and_right, all_at, sum_rise, sum_step}
+use Rattle.sheet.specs.Sheet.{entry_at, count, lengths_to, body_at, length_fits, entry_fits, fits_at, sound_as, stack_form, balance_form, meter_form, table, lookup, part_of}
+use Rattle.std.proofs.lemmas.Bool.{and_parts}
+use Rattle.sheet.proofs.Tables.{all_at, sum_rise, sum_step}
 use Rattle.sheet.proofs.Finding.{Stands, found_stands}
 use Rattle.sheet.proofs.Forms.{IsField, Formed, formed_so}
 
@@ -50,22 +32,14 @@ pub record Whole (s : List ℕ) : Type 0 where
 
 entry_so : (e : Entry) (last at : ℕ) → entry_fits e last at ≡ true → Fits e at
 entry_so e last at h =
-    let ruled : Bool = ltb last e.name && input_allowed e.name e.kind in
-    let long : Bool = length_fits e.kind e.len in
-    record {
-      long = and_right ruled long (and_left (ruled && long) (eqb e.offset at) h);
-      place = eqb-true e.offset at (and_right (ruled && long) (eqb e.offset at) h);
-    }
+    let p = and_parts _ _ h in
+    record { long = (and_parts _ _ p.0).1; place = eqb-true _ _ p.1 }
 
 input_whole : (s : List ℕ) → sound_as Input s ≡ true → Whole s
 unfolding sound_as
 input_whole s h =
-    let all : Bool = entries_fit s (count s) in
-    let last : Bool = eqb (body_at s (count s)) (length s) in
-    record {
-      each = λ k lt. entry_so (entry_at s k) (name_before s k) (body_at s k) (all_at (fits_at s) k (count s) lt (and_left all last h));
-      ends = eqb-true (body_at s (count s)) (length s) (and_right all last h);
-    }
+    let p = and_parts _ _ h in
+    record { each = λ k lt. entry_so _ _ _ (all_at (fits_at s) k (count s) lt p.0); ends = eqb-true _ _ p.1 }
 
 field_fits : (e : Entry) (name kind at place : ℕ) → IsField e name kind at → at ≡ place → Fits e place
 field_fits e name kind at place f q = record { long = rw f.kinded f.long; place = f.place ∙ q }
@@ -105,7 +79,7 @@ pub record Held (s : List ℕ) (e : Entry) : Type 0 where
   pub within : Inside s e
 
 -- THE THEOREM
-pub held : (shape : Shape) (s : List ℕ) (name : ℕ) (e : Entry) → sound_as shape s ≡ true → lookup name (table s) ≡ At e → Held s e
+pub held : (shape : Shape) (s : List ℕ) (name : ℕ) (e : Entry) → sound_as shape s ≡ true → lookup name (table s) ≡ Some e → Held s e
 held shape s name e sound found =
     let w : Whole s = whole_so shape s sound in
     let st : Stands s name (count s) e = found_stands s name e found in

@@ -1,21 +1,22 @@
 -- Laws of a table that is walked from its first entry.
-use mathlib.Core.Path.{◌≡◌, refl, sym, subst}
+use mathlib.Core.Path.{◌≡◌, sym, subst}
 use mathlib.Core.Logic.{⊎_elim}
-use mathlib.Core.Bool.{Bool, true, false, ◌&&◌, false≢true}
-use Prim.Native.Nat.{ℕ, zero, suc, ◌+◌, ◌≤◌, ◌<◌, zero-le}
+use mathlib.Core.List.{List, [], ◌∷◌}
+use mathlib.Core.Bool.{Bool, true, false, ◌&&◌}
+use Prim.Native.Nat.{ℕ, zero, suc, ◌+◌, ◌-◌, ◌≤◌, ◌<◌, zero-le}
 use native.Mathlib.Nat.{le_antisymm, le_of_suc-le-suc, eq-or-lt_of_le}
 use native.Mathlib.Numerals.{add-one}
 use native.Mathlib.Omega.{arith}
+use Rattle.std.proofs.lemmas.Bool.{and_parts}
+use Rattle.sheet.specs.Sheet.{entry_at, entries_from}
 use Rattle.sheet.specs.Walk.{every, sum, prior}
 
 -- both halves of a test that passed
 pub and_left : (a b : Bool) → (a && b) ≡ true → a ≡ true
-and_left true b h = refl
-and_left false b h = h
+and_left a b h = (and_parts a b h).0
 
 pub and_right : (a b : Bool) → (a && b) ≡ true → b ≡ true
-and_right true b h = h
-and_right false b h = absurd (false≢true h)
+and_right a b h = (and_parts a b h).1
 
 module _ (P : ℕ → Bool) where
   -- one more, as code counts
@@ -51,3 +52,12 @@ module _ (f : ℕ → ℕ) where
   pub prior_step : (k : ℕ) → prior f (k + 1) ≡ f k
   unfolding prior
   prior_step k = rw add-one
+
+-- the entries from entry k to the n-th, one at a time
+pub entries_end : (s : List ℕ) (k n : ℕ) → n ≤ k → entries_from s k (n - k) ≡ []
+unfolding entries_from
+entries_end s k n h = let e : n - k ≡ 0 = omega arith in rw e
+
+pub entries_step : (s : List ℕ) (k n : ℕ) → k < n → entries_from s k (n - k) ≡ entry_at s k ∷ entries_from s (k + 1) (n - (k + 1))
+unfolding entries_from
+entries_step s k n lt = let e : n - k ≡ suc (n - (k + 1)) = omega arith in rw e

@@ -4,6 +4,7 @@
 use mathlib.Core.Path.{◌≡◌, refl, ◌∙◌}
 use mathlib.Core.Bool.{Bool, true, false, cond}
 use mathlib.Core.List.{List, [], ◌∷◌}
+use Rattle.std.specs.Prelude.{Option, Some}
 use Prim.Native.Nat.{ℕ, ◌≤◌, ◌<◌}
 use native.Mathlib.Omega.{arith}
 use lib.ListN.{length}
@@ -14,8 +15,6 @@ use Rattle.sheet.specs.declared.Form.{Form}
 use Rattle.sheet.specs.declared.Shape.{Shape}
 use Rattle.sheet.specs.declared.Shape.TheVariants.{Stack, Balance, Meter}
 use Rattle.sheet.specs.declared.State.TheVariants as State
-use Rattle.sheet.specs.declared.Found.{Found}
-use Rattle.sheet.specs.declared.Found.TheVariants.{At}
 use Rattle.sheet.specs.Sheet.{entry_at, length_fits, sound_as, state_of, entries_from, table, lookup, part_of, stack_form, balance_form, meter_form}
 use Rattle.sheet.specs.Amounts.{amount_at}
 use Rattle.sheet.specs.Fields.{text, figure, field_of_kind, field_of, field, three}
@@ -23,12 +22,12 @@ use Rattle.sheet.proofs.Forms.{IsField, Formed, formed_so, third_is, no_stack, n
 use Rattle.sheet.proofs.Holding.{form_whole, whole_so, inside}
 
 -- the view of a table of three entries
-choose : (s : List ℕ) (b : Bool) (e : Entry) (r : Found) → field_of s (cond b (At e) r) ≡ cond b (field_of s (At e)) (field_of s r)
+choose : (s : List ℕ) (b : Bool) (e : Entry) (r : Option Entry) → field_of s (cond b (Some e) r) ≡ cond b (field_of s (Some e)) (field_of s r)
 choose s true e r = refl
 choose s false e r = refl
 
 pub three_fields : (s : List ℕ) (a b c : Entry) → table s ≡ a ∷ b ∷ c ∷ [] → (name : ℕ)
-    → field s name ≡ three a.name (field_of s (At a)) b.name (field_of s (At b)) c.name (field_of s (At c)) name
+    → field s name ≡ three a.name (field_of s (Some a)) b.name (field_of s (Some b)) c.name (field_of s (Some c)) name
 unfolding field lookup
 three_fields s a b c e name = rw (e, choose s (eqb a.name name), choose s (eqb b.name name), choose s (eqb c.name name))
 

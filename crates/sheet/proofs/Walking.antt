@@ -1,4 +1,4 @@
--- The walk over an input's table: what holds of the running values after k entries that fit, and the verdict at its end.
+-- The walk over an input's table: what holds of the running values after k entries that fit, and what they say at its end.
 use mathlib.Core.Path.{◌≡◌, refl, sym, ap, ◌∙◌}
 use mathlib.Core.Bool.{true, false}
 use mathlib.Core.List.{List}
@@ -8,9 +8,8 @@ use lib.ListN.{length}
 use lib.Dec.{eqb}
 use Rattle.sheet.specs.declared.Entry.{Entry}
 use Rattle.sheet.specs.declared.Shape.TheVariants.{Input}
-use Rattle.sheet.specs.declared.Verdict.TheVariants.{Torn}
 use Rattle.sheet.specs.Walk.{every, sum, prior}
-use Rattle.sheet.specs.Sheet.{fits_at, entry_at, count, body_at, name_before, entry_fits, entries_fit, sound_as, verdict_of}
+use Rattle.sheet.specs.Sheet.{fits_at, entry_at, count, body_at, name_before, entry_fits, entries_fit, sound_as}
 use Rattle.sheet.proofs.Tables.{all_step, all_stays, sum_step, prior_step}
 
 -- What the walk holds after k entries found to fit: the next body starts behind the table and the bodies so far, `last` is the last name
@@ -39,7 +38,7 @@ module _ (s : List ℕ) (e : Entry) (at last k : ℕ) (w : Walked s at last k) (
   walk_torn n lt h = all_stays (fits_at s) (k + 1) n (omega arith) (all_step (fits_at s) k ∙ rw w.fit (same_test ∙ h))
 
 module _ (s : List ℕ) where
-  pub torn_entry : entries_fit s (count s) ≡ false → verdict_of Input s ≡ Torn
+  pub torn_entry : entries_fit s (count s) ≡ false → sound_as Input s ≡ false
   unfolding sound_as
   torn_entry e = rw e
 

@@ -1,10 +1,9 @@
 -- Document 01, section "Sheets": a sheet as rules see it, by the names of its fields.
-use Rattle.std.specs.Prelude.{Bool, cond, not, List, ℕ, eqb, length}
+use Rattle.std.specs.Prelude.{Bool, cond, not, List, Option, Some, None, ℕ, eqb, length}
 use Rattle.amount.specs.declared.Amount.{Amount}
 use Rattle.sheet.specs.Amounts.{amount_at}
 use Rattle.sheet.specs.Sheet.{lookup, table, body_of}
-use Rattle.sheet.specs.declared.Found.{Found}
-use Rattle.sheet.specs.declared.Found.TheVariants.{At, Nothing}
+use Rattle.sheet.specs.declared.Entry.{Entry}
 
 -- the names
 abbrev pub subject : ℕ
@@ -47,9 +46,9 @@ pub data Field : Type 0 where
 abbrev pub field_of_kind : ℕ → List ℕ → Field
 field_of_kind kind body = cond (eqb kind 1) (text body) (cond (eqb kind 3) (figure (amount_at body 0)) other)
 
-abbrev pub field_of : List ℕ → Found → Field
-field_of s (At e) = field_of_kind e.kind (body_of s (At e))
-field_of s Nothing = absent
+abbrev pub field_of : List ℕ → Option Entry → Field
+field_of s (Some e) = field_of_kind e.kind (body_of s (Some e))
+field_of s None = absent
 
 -- the field of that name
 unfoldable pub field : List ℕ → ℕ → Field

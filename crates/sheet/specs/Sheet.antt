@@ -1,17 +1,13 @@
 -- Document 01, section "Sheets": byte 0 is the entry count n; n six-byte entries follow: name, kind, offset, length (16 bits,
 -- little-endian); bodies come next in table order with no gap, the last ending the sheet. Names strictly rise.
 -- Every reading is total: a byte past the end counts as 0, a part past the end is what is there.
-use Rattle.std.specs.Prelude.{Bool, false, cond, ◌&&◌, List, [], ◌∷◌, ℕ, zero, suc, ◌+◌, ◌*◌, length, get_or, take, drop, eqb, leb, ltb}
+use Rattle.std.specs.Prelude.{Bool, false, cond, ◌&&◌, List, [], ◌∷◌, Option, Some, None, ℕ, zero, suc, ◌+◌, ◌*◌, length, get_or, take, drop, eqb, leb, ltb}
 use Rattle.sheet.specs.Walk.{every, sum, prior}
 use Rattle.sheet.specs.declared.Entry.{Entry}
 use Rattle.sheet.specs.declared.Form.{Form}
 use Rattle.sheet.specs.declared.Shape.{Shape}
 use Rattle.sheet.specs.declared.Shape.TheVariants.{Input, Stack, Balance, Meter}
-use Rattle.sheet.specs.declared.Verdict.{Verdict}
-use Rattle.sheet.specs.declared.Verdict.TheVariants.{Sound, Torn}
 use Rattle.sheet.specs.declared.State.{State}
-use Rattle.sheet.specs.declared.Found.{Found}
-use Rattle.sheet.specs.declared.Found.TheVariants.{At, Nothing}
 
 abbrev pub u16_at : List ℕ → ℕ → ℕ
 u16_at s i = get_or s i 0 + 256 * get_or s (i + 1) 0
@@ -93,20 +89,13 @@ sound_as Stack s = is_form stack_form s
 sound_as Balance s = is_form balance_form s
 sound_as Meter s = is_form meter_form s
 
-abbrev pub verdict_of : Shape → List ℕ → Verdict
-verdict_of shape s = cond (sound_as shape s) Sound Torn
-
-abbrev pub if_sound : Verdict → State → State → State
-if_sound Sound a b = a
-if_sound Torn a b = b
-
 -- no bytes are an absent state; else a stack, a balance or a meter
 abbrev pub state_of : List ℕ → State
 state_of s =
     cond (eqb (length s) 0) State.Absent
-    (if_sound (verdict_of Stack s) State.Stack
-    (if_sound (verdict_of Balance s) State.Balance
-    (if_sound (verdict_of Meter s) State.Meter State.Torn)))
+    (cond (sound_as Stack s) State.Stack
+    (cond (sound_as Balance s) State.Balance
+    (cond (sound_as Meter s) State.Meter State.Torn)))
 
 -- m entries from entry k on
 unfoldable pub entries_from : List ℕ → ℕ → ℕ → List Entry
@@ -118,14 +107,14 @@ abbrev pub table : List ℕ → List Entry
 table s = entries_from s 0 (count s)
 
 -- the first entry of that name
-unfoldable pub lookup : ℕ → List Entry → Found
-lookup name [] = Nothing
-lookup name (e ∷ es) = cond (eqb e.name name) (At e) (lookup name es)
+unfoldable pub lookup : ℕ → List Entry → Option Entry
+lookup name [] = None
+lookup name (e ∷ es) = cond (eqb e.name name) (Some e) (lookup name es)
 
 -- an entry's body is a part of the sheet itself
 abbrev pub part_of : List ℕ → Entry → List ℕ
 part_of s e = take e.len (drop e.offset s)
 
-abbrev pub body_of : List ℕ → Found → List ℕ
-body_of s (At e) = part_of s e
-body_of s Nothing = []
+abbrev pub body_of : List ℕ → Option Entry → List ℕ
+body_of s (Some e) = part_of s e
+body_of s None = []

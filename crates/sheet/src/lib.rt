@@ -10,9 +10,10 @@ pub mod reader;
 mod soundness;
 
 pub use amounts::{amount_at, amount_bytes};
-pub use soundness::{layout, state_of};
+pub use soundness::{is_sound, state_of};
 
-// The names of fields.
+// The names of fields: document 01's numbers, which stand in sheets and in answers as bytes. An enum would need a variant for the other
+// bytes, and a conversion both ways.
 pub const SUBJECT: u8 = 1;
 
 pub const UNIT: u8 = 2;
@@ -33,7 +34,7 @@ pub const TO_UNIT: u8 = 9;
 
 pub const AUTHORIZED_BY: u8 = 10;
 
-// The kinds of fields. `OTHER` is a value that is no string.
+// The kinds of fields, bytes as the names are. `OTHER` is a value that is no string.
 pub const KIND_TEXT: u8 = 1;
 
 pub const KIND_OTHER: u8 = 2;
@@ -41,7 +42,7 @@ pub const KIND_OTHER: u8 = 2;
 pub const KIND_AMOUNT: u8 = 3;
 
 // One entry of the table: the body's offset from the sheet's start, and its length.
-#[derive(Clone, Copy)]
+#[derive(Clone, Copy, Debug, PartialEq, Eq)]
 pub struct Entry {
     pub name: u8,
     pub kind: u8,
@@ -50,7 +51,7 @@ pub struct Entry {
 }
 
 // What a sheet is read as.
-#[derive(Clone, Copy)]
+#[derive(Clone, Copy, Debug, PartialEq, Eq)]
 pub enum Shape {
     Input,
     Stack,
@@ -58,14 +59,8 @@ pub enum Shape {
     Meter,
 }
 
-#[derive(Clone, Copy)]
-pub enum Verdict {
-    Sound,
-    Torn,
-}
-
 // What a state sheet is.
-#[derive(Clone, Copy)]
+#[derive(Clone, Copy, Debug, PartialEq, Eq)]
 pub enum State {
     Absent,
     Stack,
@@ -74,14 +69,8 @@ pub enum State {
     Torn,
 }
 
-#[derive(Clone, Copy)]
-pub enum Found {
-    At(Entry),
-    Nothing,
-}
-
 // The fields of a state: the subject's text, the field `second` of kind `kind`, and the amount `third`.
-#[derive(Clone, Copy)]
+#[derive(Clone, Copy, Debug, PartialEq, Eq)]
 pub struct Form {
     pub second: u8,
     pub kind: u8,
@@ -110,50 +99,41 @@ pub const METER_FORM: Form = Form {
 pub fn byte(s: &[u8], i: usize) -> u8
     ensures { result ≡ get_or s.now i 0 }
 {
-    if i < s.len() { s[i] } else { 0 }
+    s.get(i).copied().unwrap_or(0)
 }
 
 // The little-endian 16-bit number at i.
 pub fn u16_at(s: &[u8], i: usize) -> u16
     ensures { result ≡ u16_at s.now i }
 {
-    if i < s.len() {
-        let lo = byte(s, i) as u16;
-        let hi = byte(s, i + 1) as u16;
-        lo + 256 * hi
-    } else {
-        0
+    match s.get(i..) {
+        Some([lo, hi, ..]) => u16::from_le_bytes([*lo, *hi]),
+        Some([lo]) => u16::from(*lo),
+        _ => 0,
     }
 }
 
 // The first entry of that name.
-pub fn find(s: &[u8], name: u8) -> Found
+#[tactic(auto, using(crate::proofs::Finding::lookup_here, crate::proofs::Finding::lookup_next, crate::proofs::Finding::lookup_end))]
+pub fn find(s: &[u8], name: u8) -> Option<Entry>
     ensures { result ≡ lookup name (table s.now) }
 {
     let n = byte(s, 0) as usize;
-    let mut k: usize = 0;
-    while k < n {
+    // by index: a `Reader` or `chunks` reads entries whole, and the walk looks at names alone
+    for k in 0..n {
         if byte(s, 1 + 6 * k) == name {
-            return Found::At(entry_at(s, k));
+            return Some(entry_at(s, k));
         }
-        k += 1;
     }
-    Found::Nothing
+    None
 }
 
 // At most len bytes from start, as a part of the slice: fewer, or none, where the slice ends first.
 pub fn part(s: &[u8], start: usize, len: usize) -> &[u8]
     ensures { result.now ≡ take len (drop start s.now) }
 {
-    if start <= s.len() {
-        if len <= s.len() - start {
-            &s[start..start + len]
-        } else {
-            &s[start..]
-        }
-    } else {
-        &s[..0]
-    }
+    let rest = &s[start.min(s.len())..];
+    &rest[..len.min(rest.len())]
 }
 
 // The body of an entry, as a part of the sheet.
@@ -167,32 +147,25 @@ pub fn entry_body(s: &[u8], e: Entry) -> &[u8]
 pub fn body(s: &[u8], name: u8) -> &[u8]
     ensures { result.now ≡ body_of s.now (lookup name (table s.now)) }
 {
-    let Found::At(e) = find(s, name) else {
+    let Some(e) = find(s, name) else {
         return &s[..0];
     };
     entry_body(s, e)
 }
 
-// A 16-bit number, where both its bytes are there.
-fn u16_in(s: &[u8], i: usize) -> u16
-    requires { i + 2 ≤ length s.now }
-    ensures { result ≡ u16_at s.now i }
-{
-    s[i] as u16 + 256 * s[i + 1] as u16
-}
-
 // Entry k of the table. Where it is there whole, one test stands for those of its six bytes.
+#[tactic(auto, unfolding(crate::specs::Sheet::entry_at))]
 fn entry_at(s: &[u8], k: usize) -> Entry
     requires { k < 256 }
     ensures { result ≡ entry_at s.now k }
 {
     let p = 1 + 6 * k;
-    if p + 6 <= s.len() {
+    if let Some(e) = s.get(p..p + 6) {
         return Entry {
-            name: s[p],
-            kind: s[p + 1],
-            offset: u16_in(s, p + 2),
-            len: u16_in(s, p + 4),
+            name: e[0],
+            kind: e[1],
+            offset: u16::from_le_bytes([e[2], e[3]]),
+            len: u16::from_le_bytes([e[4], e[5]]),
         };
     }
     Entry {

@@ -5,11 +5,9 @@
 #![tactic(auto)]
 
 use amount::Amount;
-use sheet::reader::Step;
-use sheet::{Found, Shape, State, Verdict};
+use sheet::{BALANCE_FORM, STACK_FORM, Shape, State};
 use std::io;
 use std::io::{BufWriter, Read, Write};
-use writer::Put;
 
 // The cases are read up to here.
 const READ_BYTES: u64 = 524288;
@@ -20,12 +18,14 @@ fn print_amount(out: &mut impl Write, a: Amount) -> io::Result<()> {
 }
 
 fn print_input(out: &mut impl Write, s: &[u8]) -> io::Result<()> {
-    match sheet::layout(s, Shape::Input) {
-        Verdict::Sound => write!(out, "sound"),
-        Verdict::Torn => write!(out, "torn"),
+    if sheet::is_sound(s, Shape::Input) {
+        write!(out, "sound")
+    } else {
+        write!(out, "torn")
     }
 }
 
+// The cases' words.
 fn print_state(out: &mut impl Write, s: &[u8]) -> io::Result<()> {
     match sheet::state_of(s) {
         State::Absent => write!(out, " absent"),
@@ -39,14 +39,14 @@ fn print_state(out: &mut impl Write, s: &[u8]) -> io::Result<()> {
 // The first entry's name, by the reader.
 fn print_first(out: &mut impl Write, s: &[u8]) -> io::Result<()> {
     match sheet::reader::first(s) {
-        Step::Next(e) => write!(out, " {}", e.name),
-        Step::End => write!(out, " none"),
+        Some(e) => write!(out, " {}", e.name),
+        None => write!(out, " none"),
     }
 }
 
 // What lookup finds: name, kind, offset and length, the length of the body that is there, and an amount's value.
 fn print_field(out: &mut impl Write, s: &[u8], name: u8) -> io::Result<()> {
-    let Found::At(e) = sheet::find(s, name) else {
+    let Some(e) = sheet::find(s, name) else {
         return Ok(());
     };
     let body = sheet::body(s, name);
@@ -68,24 +68,29 @@ fn judge(out: &mut impl Write, s: &[u8]) -> io::Result<()> {
     writeln!(out)
 }
 
-fn write_state(tag: u8, out: &mut [u8], subject: &[u8], unit: &[u8], a: Amount, b: Amount) -> Put {
-    if tag == 1 {
-        return writer::put_stack(out, subject, unit, a);
-    }
-    if tag == 2 {
-        return writer::put_balance(out, subject, unit, a);
-    }
-    writer::put_meter(out, subject, a, b)
-}
-
-fn print_put(out: &mut impl Write, p: Put) -> io::Result<()> {
-    match p {
-        Put::Done(n) => write!(out, "done {n} "),
-        Put::Narrow => write!(out, "narrow "),
+fn write_state(
+    tag: u8,
+    out: &mut [u8],
+    subject: &[u8],
+    unit: &[u8],
+    a: Amount,
+    b: Amount,
+) -> Option<usize> {
+    match tag {
+        1 => writer::put_holding(out, STACK_FORM, subject, unit, a),
+        2 => writer::put_holding(out, BALANCE_FORM, subject, unit, a),
+        _ => writer::put_meter(out, subject, a, b),
     }
 }
 
-// The first n bytes.
+fn print_put(out: &mut impl Write, written: Option<usize>) -> io::Result<()> {
+    match written {
+        Some(n) => write!(out, "done {n} "),
+        None => write!(out, "narrow "),
+    }
+}
+
+// The first n bytes, by index: those past the end count as 0.
 fn print_hex(out: &mut impl Write, bytes: &[u8], n: usize) -> io::Result<()> {
     for i in 0..n {
         write!(out, "{:02x}", sheet::byte(bytes, i))?;
@@ -128,25 +133,20 @@ fn write(out: &mut impl Write, tag: u8, s: &[u8]) -> io::Result<()> {
 }
 
 fn case(out: &mut impl Write, tag: u8, s: &[u8]) -> io::Result<()> {
-    if tag == 0 {
-        return judge(out, s);
+    match tag {
+        0 => judge(out, s),
+        _ => write(out, tag, s),
     }
-    write(out, tag, s)
 }
 
-fn cases(out: &mut impl Write, s: &[u8]) -> io::Result<()> {
-    let mut at: usize = 0;
-    while at < s.len() {
-        if s.len() - at < 4 {
+fn cases(out: &mut impl Write, mut s: &[u8]) -> io::Result<()> {
+    while let [tag, low, middle, high, rest @ ..] = s {
+        let len = u32::from_le_bytes([*low, *middle, *high, 0]) as usize;
+        let Some((body, behind)) = rest.split_at_checked(len) else {
             return Ok(());
-        }
-        let body = at + 4;
-        let len = sheet::u16_at(s, at + 1) as usize + 65536 * sheet::byte(s, at + 3) as usize;
-        if s.len() - body < len {
-            return Ok(());
-        }
-        case(out, sheet::byte(s, at), &s[body..body + len])?;
-        at = body + len;
+        };
+        case(out, *tag, body)?;
+        s = behind;
     }
     Ok(())
 }

@@ -18,35 +18,35 @@ use Rattle.book.specs.Book.{place_record, transfer_record, place_at, is_some, cr
 use Rattle.book.specs.Steps.{Open, Act, Begin, credits_in, bytes_in, adds, doing, changed, refused_if, after_check, Seen, seen, tests_of, tests_finish, answer, landed, effect, held_at, flow, Neither, issues, takes}
 use Rattle.book.specs.declared.Book.{Book}
 use Rattle.book.specs.declared.error.BookError.TheVariants.{TooMuch}
-use Rattle.book.specs.declared.error.BookOutcome.TheVariants.{Accepted}
 use Rattle.book.proofs.Facts.{Finishes, finishes, acts_so, begins, Opens, opens, accepted_tests}
 use Rattle.book.proofs.Formed.{Formed, formed}
 use Rattle.book.proofs.Views.{transfer_raw, home, home_open, open_lt}
 use Rattle.book.proofs.Effects.{held_part, carried_part}
-use Rattle.steps.specs.Turn.{with_sheet, ending, short_name, Shows, stored_at, stored, accepted_with}
+use Rattle.steps.specs.Turn.{with_sheet, ending, short_name, Shows, stored_at, stored}
 use Rattle.steps.specs.declared.step.Step.TheVariants as Code
 use Rattle.steps.specs.declared.step.View.{View}
 use Rattle.audit.proofs.Sums.{place_in}
 use Rattle.steps.proofs.Tested.{Here}
 use Rattle.steps.proofs.Looks.{transfer_low, place_low}
 use Rattle.steps.proofs.Turned.{carried_back, stored_whole}
+use Rattle.std.specs.Prelude.{Option, Ok}
 
 -- ---- the views that are left
 
 -- what is held is h, and the total n
-abbrev pub holding : View → Uint128 → Uint128 → View
+abbrev pub holding : View → Uint128 → Option Uint128 → View
 holding x h n =
-    record { held = h; carried = x.carried; total = n; opened = x.opened; pending = x.pending; from = x.from; to = x.to; named = x.named; sound = x.sound }
+    record { held = h; carried = x.carried; total = n; opened = x.opened; pending = x.pending; from = x.from; to = x.to; named = x.named }
 
 -- and a place is open
-abbrev pub opening : View → Uint128 → Uint128 → ℕ → View
+abbrev pub opening : View → Uint128 → Option Uint128 → ℕ → View
 opening x h n k =
-    record { held = h; carried = x.carried; total = n; opened = k; pending = x.pending; from = x.from; to = x.to; named = x.named; sound = x.sound }
+    record { held = h; carried = x.carried; total = n; opened = k; pending = x.pending; from = x.from; to = x.to; named = x.named }
 
 -- what is held is h, and the transfer goes from f to g with c
 abbrev pub moving : View → Uint128 → Uint128 → ℕ → ℕ → ℕ → View
 moving x h c f g k =
-    record { held = h; carried = c; total = x.total; opened = x.opened; pending = k; from = f; to = g; named = x.named; sound = x.sound }
+    record { held = h; carried = c; total = x.total; opened = x.opened; pending = k; from = f; to = g; named = x.named }
 
 -- ---- finish and cancel
 
@@ -66,7 +66,7 @@ module _ (t : ℕ) (i : List ℕ) where
   ending_looks false v = (v.held, v.carried)
 
   ending_stored : (back : Bool) (b : Book) (y : View)
-      → let p = home back (transfer_record b (t % 8)) % 16 in stored b (ending t back) i (accepted_with y) ≡ stored_at b p (t % 8) (place_record b p).subject y
+      → let p = home back (transfer_record b (t % 8)) % 16 in stored b (ending t back) i (Ok y) ≡ stored_at b p (t % 8) (place_record b p).subject y
   ending_stored true b y = refl
   ending_stored false b y = refl
 
@@ -74,7 +74,7 @@ module _ (t : ℕ) (i : List ℕ) where
   ending_lands true b = refl
   ending_lands false b = refl
 
-module _ (b : Book) (t : ℕ) (i : List ℕ) (back : Bool) (h : answer b (with_sheet (ending t back) i) ≡ Accepted) (w : b.opened < 2 ^ 16) where
+module _ (b : Book) (t : ℕ) (i : List ℕ) (back : Bool) (h : answer b (with_sheet (ending t back) i) ≡ Ok tt) (w : b.opened < 2 ^ 16) where
   formed_28 : is_well_formed b ≡ true
   formed_28 = (accepted_tests b (with_sheet (ending t back) i) h).0
 
@@ -100,7 +100,7 @@ module _ (b : Book) (t : ℕ) (i : List ℕ) (back : Bool) (h : answer b (with_s
 
   pub stored_end : (x : View) (m : Uint128) (n : ℕ) → Shows b (ending t back) x
       → m ≡ halves ((val x.held + val x.carried) % limit) → n ≡ with_bit x.pending (t % 8) 0
-      → stored b (ending t back) i (accepted_with (moving x m zero_amount.mantissa 0 0 n)) ≡ effect b (with_sheet (ending t back) i)
+      → stored b (ending t back) i (Ok (moving x m zero_amount.mantissa 0 0 n)) ≡ effect b (with_sheet (ending t back) i)
   unfolding set_transfer set_record blank_transfer
   stored_end x m n v e k =
       let same : t % 8 ≡ t = mod-eq_of_lt facts.low in
@@ -136,13 +136,13 @@ module _ (o : ℕ) (i : List ℕ) where
   unfolding doing
   after_issuing e s p v = rw e
 
-  pub after_taking : adds o ≡ false → (s : Seen) (p v : ℕ) → after_check (doing o) s p v ≡ Accepted
+  pub after_taking : adds o ≡ false → (s : Seen) (p v : ℕ) → after_check (doing o) s p v ≡ Ok tt
   unfolding doing
   after_taking e s p v = rw e
 
-module _ (b : Book) (p o : ℕ) (i : List ℕ) (h : answer b (Act p o i) ≡ Accepted) where
-  pub stored_act : (x : View) (m n : Uint128) → Shows b (Code.Act p o) x → m ≡ halves (changed o (held_at b p) (credits_in amount i))
-      → stored b (Code.Act p o) i (accepted_with (holding x m n)) ≡ effect b (Act p o i)
+module _ (b : Book) (p o : ℕ) (i : List ℕ) (h : answer b (Act p o i) ≡ Ok tt) where
+  pub stored_act : (x : View) (m : Uint128) (n : Option Uint128) → Shows b (Code.Act p o) x → m ≡ halves (changed o (held_at b p) (credits_in amount i))
+      → stored b (Code.Act p o) i (Ok (holding x m n)) ≡ effect b (Act p o i)
   unfolding set_record
   stored_act x m n v e =
       let low = (acts_so (seen b) p o i (accepted_tests b (Act p o i) h).1).low in
@@ -153,13 +153,13 @@ module _ (b : Book) (p o : ℕ) (i : List ℕ) (h : answer b (Act p o i) ≡ Acc
 
 -- ---- open
 
-module _ (b : Book) (p : ℕ) (i : List ℕ) (h : answer b (Open p i) ≡ Accepted) where
+module _ (b : Book) (p : ℕ) (i : List ℕ) (h : answer b (Open p i) ≡ Ok tt) where
   opens_so : Opens (seen b) p i
   opens_so = opens (seen b) p i (accepted_tests b (Open p i) h).1
 
-  pub stored_open : (x : View) (m n : Uint128) (k : ℕ) → Shows b (Code.Open p) x → m ≡ halves (credits_in balance i)
+  pub stored_open : (x : View) (m : Uint128) (n : Option Uint128) (k : ℕ) → Shows b (Code.Open p) x → m ≡ halves (credits_in balance i)
       → k ≡ with_bit x.opened (p % 16) 1
-      → stored b (Code.Open p) i (accepted_with (opening x m n k)) ≡ effect b (Open p i)
+      → stored b (Code.Open p) i (Ok (opening x m n k)) ≡ effect b (Open p i)
   unfolding open_place short_name
   stored_open x m n k v e q =
       let sound = (accepted_tests b (Open p i) h).0 in
@@ -179,10 +179,10 @@ low_ends f g t h =
     let e = or_both (leb 16 f) (leb 16 g) (or_both (leb 16 f || leb 16 g) (leb 8 t) h).0 in
     (leb-false 16 f e.0, leb-false 16 g e.1)
 
-module _ (b : Book) (f g t : ℕ) (i : List ℕ) (h : answer b (Begin f g t i) ≡ Accepted) where
+module _ (b : Book) (f g t : ℕ) (i : List ℕ) (h : answer b (Begin f g t i) ≡ Ok tt) where
   pub stored_begin : (x : View) (m c : Uint128) (k : ℕ) → Shows b (Code.Begin f g t) x → m ≡ halves (held_at b f - credits_in amount i)
       → c ≡ halves (credits_in amount i) → k ≡ with_bit x.pending (t % 8) 1
-      → stored b (Code.Begin f g t) i (accepted_with (moving x m c f g k)) ≡ effect b (Begin f g t i)
+      → stored b (Code.Begin f g t) i (Ok (moving x m c f g k)) ≡ effect b (Begin f g t i)
   unfolding set_transfer set_record
   stored_begin x m c k v e d q =
       let facts = begins (seen b) f g t i (accepted_tests b (Begin f g t i) h).1 in

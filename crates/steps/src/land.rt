@@ -6,29 +6,26 @@ ghost use Rattle.book.specs.declared.Book.{Book};
 ghost use Rattle.steps.specs.Turn.{ending, Shows, Turned};
 
 use crate::sets;
-use crate::step::{TRANSFERS, Turn, View, accepted, refused};
+use crate::step::{TRANSFERS, View};
 use amount::Uint128;
-use book::error;
+use book::error::BookError;
 
 // Refusal 22: off the book; 23: not under way.
-pub(crate) fn land(was: View, transfer: u8) -> Turn
+pub(crate) fn land(was: View, transfer: u8) -> Result<View, BookError>
     ensures { (b : Book) (i : List ℕ) (back : Bool) → is_well_formed b ≡ true → Shows b (ending transfer back) was → Turned b (ending transfer back) i result }
 {
     if TRANSFERS <= transfer {
-        return refused(was, error::OFF_THE_BOOK, 0);
+        return Err(BookError::OffTheBook);
     }
-    if !audit::has8(was.pending, transfer) {
-        return refused(was, error::IDLE, 0);
+    if !audit::has(u16::from(was.pending), transfer) {
+        return Err(BookError::Idle);
     }
-    let held = was.held;
-    let carried = was.carried;
-    let sum = held.wrapping_add(carried);
-    let nothing = Uint128::ZERO;
-    let mut left = was;
-    left.held = sum;
-    left.carried = nothing;
-    left.from = 0;
-    left.to = 0;
-    left.pending = sets::without8(was.pending, transfer % TRANSFERS);
-    accepted(left)
+    Ok(View {
+        held: was.held.wrapping_add(was.carried),
+        carried: Uint128::ZERO,
+        pending: sets::without8(was.pending, transfer % TRANSFERS),
+        from: 0,
+        to: 0,
+        ..was
+    })
 }

@@ -13,7 +13,6 @@ mod start;
 mod step;
 mod turn;
 
-pub use names::length_of;
 pub use start::{start_answer, start_book, start_outcome};
-pub use step::{Step, Turn, View, answer_of, destination_of, place_of, subject_after, transfer_of};
+pub use step::{Step, View};
 pub use turn::take_turn;

@@ -7,27 +7,26 @@ use native.Mathlib.Omega.{arith}
 use lib.Dec.{eqb, leb}
 use lib.ListN.{length, length-append}
 use borrow.Author.Tests.{eqb-true, eqb-false, leb-true}
-use Rattle.sheet.specs.Sheet.{entries_from, table, lookup, length_fits, part_of, sound_as, verdict_of, state_of}
+use Rattle.sheet.specs.Sheet.{entries_from, table, lookup, length_fits, part_of, sound_as, state_of}
 use Rattle.sheet.specs.Fields.{field_of, field_of_kind, field}
 use Rattle.sheet.specs.Amounts.{amount_bytes}
 use Rattle.writer.specs.Encode.{encode, item, stack_sheet, balance_sheet, meter_sheet, put_answer}
-use Rattle.sheet.specs.declared.Found.{Found}
-use Rattle.sheet.specs.declared.Found.TheVariants.{At, Nothing}
 use Rattle.sheet.specs.declared.Shape.{Shape}
 use Rattle.sheet.specs.declared.Shape.TheVariants.{Input, Stack, Balance, Meter}
 use Rattle.sheet.proofs.Holding.{held}
 use Rattle.registry.specs.Call.{state_sound, input_sound, operation_of, called}
 use Rattle.registry.specs.Tests.{◌then◌}
-use Rattle.registry.specs.declared.error.Outcome.{Outcome}
-use Rattle.registry.specs.declared.error.Outcome.TheVariants.{Accepted, Refused}
+use Rattle.registry.specs.Refusals.{Outcome}
 use Rattle.registry.specs.Readers.{bytes_of}
 use Rattle.registry.proofs.Readers.{no_bytes}
-use Rattle.writer.specs.declared.Put.TheVariants as Put
 use Rattle.resource_state.specs.Next.{text_from, sheet_of}
-use Rattle.transition.specs.Helpers.{ShortTexts, PutFits}
+use Rattle.std.specs.Option.{ForSome}
+use Rattle.transition.specs.Helpers.{ShortTexts}
+use Rattle.sheet.specs.declared.Entry.{Entry}
 use Rattle.resource_state.specs.declared.Part.{Part}
 use Rattle.resource_state.specs.declared.ResourceState.{ResourceState}
 use Rattle.resource_state.specs.declared.ResourceState.TheVariants.{ConsumableStack, FungibleBalance, MeteredResource}
+use Rattle.std.specs.Prelude.{Ok, Err, None, Option, Some}
 
 -- one field
 kind_short : (t : Bool) (kind : ℕ) (body : List ℕ) → eqb kind 1 ≡ t → length_fits kind (length body) ≡ true → length (bytes_of (field_of_kind kind body)) ≤ 256
@@ -37,10 +36,10 @@ kind_short true kind body e h =
     rw e (leb-true (length body) 256 (rw k at h))
 kind_short false kind body e h = rw (← no_bytes kind body (eqb-false kind 1 e)) (omega arith)
 
-found_short : (shape : Shape) (s : List ℕ) (name : ℕ) (f : Found) → sound_as shape s ≡ true → lookup name (table s) ≡ f → length (bytes_of (field_of s f)) ≤ 256
+found_short : (shape : Shape) (s : List ℕ) (name : ℕ) (f : Option Entry) → sound_as shape s ≡ true → lookup name (table s) ≡ f → length (bytes_of (field_of s f)) ≤ 256
 unfolding bytes_of
-found_short shape s name Nothing h e = omega arith
-found_short shape s name (At e) h q =
+found_short shape s name None h e = omega arith
+found_short shape s name (Some e) h q =
     let d = held shape s name e h q in
     kind_short (eqb e.kind 1) e.kind (part_of s e) refl (rw d.within.whole d.long)
 
@@ -55,7 +54,7 @@ absent_short [] h name = omega arith
 absent_short (b ∷ s) h name = absurd (omega arith)
 
 -- a state and an input that a call takes
-state_short : (a b c d : Bool) (s : List ℕ) → eqb (length s) 0 ≡ a → sound_as Stack s ≡ b → sound_as Balance s ≡ c → sound_as Meter s ≡ d → (which : ℕ) → Accepted ≡ state_sound which (state_of s) → ShortTexts s
+state_short : (a b c d : Bool) (s : List ℕ) → eqb (length s) 0 ≡ a → sound_as Stack s ≡ b → sound_as Balance s ≡ c → sound_as Meter s ≡ d → (which : ℕ) → Ok tt ≡ state_sound which (state_of s) → ShortTexts s
 state_short true b c d s p q r t which h = absent_short s (eqb-true (length s) 0 p)
 state_short false true c d s p q r t which h = sound_short Stack s q
 state_short false false true d s p q r t which h = sound_short Balance s r
@@ -65,28 +64,28 @@ state_short false false false false s p q r t which h =
     let z : ◌≡◌ {A = ℕ} 0 1 = cc in
     absurd (omega arith)
 
-pub state_is_short : (s : List ℕ) (which : ℕ) → Accepted ≡ state_sound which (state_of s) → ShortTexts s
+pub state_is_short : (s : List ℕ) (which : ℕ) → Ok tt ≡ state_sound which (state_of s) → ShortTexts s
 state_is_short s = state_short (eqb (length s) 0) (sound_as Stack s) (sound_as Balance s) (sound_as Meter s) s refl refl refl refl
 
-input_short : (t : Bool) (i : List ℕ) → sound_as Input i ≡ t → Accepted ≡ input_sound (verdict_of Input i) → ShortTexts i
+input_short : (t : Bool) (i : List ℕ) → sound_as Input i ≡ t → Ok tt ≡ input_sound (sound_as Input i) → ShortTexts i
 input_short true i e h = sound_short Input i e
 input_short false i e h =
     let k = rw e at h in
     let z : ◌≡◌ {A = ℕ} 0 1 = cc in
     absurd (omega arith)
 
-pub input_is_short : (i : List ℕ) → Accepted ≡ input_sound (verdict_of Input i) → ShortTexts i
+pub input_is_short : (i : List ℕ) → Ok tt ≡ input_sound (sound_as Input i) → ShortTexts i
 input_is_short i = input_short (sound_as Input i) i refl
 
-then_told : (a b : Outcome) → Accepted ≡ (a then b) → (Accepted ≡ a) × (Accepted ≡ b)
-then_told Accepted b h = (refl, h)
-then_told (Refused e) b h = let z : ◌≡◌ {A = ℕ} 0 1 = cc in absurd (omega arith)
+then_told : (a b : Outcome) → Ok tt ≡ (a then b) → (Ok tt ≡ a) × (Ok tt ≡ b)
+then_told (Ok _) b h = (refl, h)
+then_told (Err e) b h = let z : ◌≡◌ {A = ℕ} 0 1 = cc in absurd (omega arith)
 
-pub call_is_short : (profile op : ℕ) (s i : List ℕ) → Accepted ≡ called profile op s i → ShortTexts s × ShortTexts i
+pub call_is_short : (profile op : ℕ) (s i : List ℕ) → Ok tt ≡ called profile op s i → ShortTexts s × ShortTexts i
 unfolding called
 call_is_short profile op s i h =
-    let t = then_told (state_sound 1 (state_of s)) (input_sound (verdict_of Input i) then operation_of profile op) h in
-    let u = then_told (input_sound (verdict_of Input i)) (operation_of profile op) t.1 in
+    let t = then_told (state_sound 1 (state_of s)) (input_sound (sound_as Input i) then operation_of profile op) h in
+    let u = then_told (input_sound (sound_as Input i)) (operation_of profile op) t.1 in
     (state_is_short s 1 t.0, input_is_short i u.0)
 
 -- the sheet of a next state, and the length that is answered
@@ -111,10 +110,10 @@ sheet_fits s i (FungibleBalance n) f g =
 sheet_fits s i (MeteredResource n) f g =
     items_fit 5 3 6 _ (amount_bytes n.remaining) (amount_bytes n.maximum) (text_short s i f g n.subject) (omega arith) (omega arith)
 
-put_case : (t : Bool) (w old : List ℕ) → length w < 65536 → PutFits (cond t (Put.Done (length w)) Put.Narrow)
-put_case true w old h = h
-put_case false w old h = omega arith
+put_case : (t : Bool) (w old : List ℕ) → length w < 65536 → ForSome (cond t (Some (length w)) None) (λ n. n < 65536)
+put_case true w old h n e = let q : length w ≡ n = cc in rw q at h
+put_case false w old h n e = let z : ◌≡◌ {A = ℕ} 0 1 = cc in absurd (omega arith)
 
-pub put_fits : (w old : List ℕ) → length w ≤ 548 → PutFits (put_answer w old)
+pub put_fits : (w old : List ℕ) → length w ≤ 548 → ForSome (put_answer w old) (λ n. n < 65536)
 unfolding put_answer
 put_fits w old h = put_case (leb (length w) (length old)) w old (omega (arith, h))

@@ -10,11 +10,11 @@ use lib.Seq.{get_or-drop}
 use Rattle.amount.specs.declared.Amount.{Amount}
 use Rattle.sheet.specs.Sheet.{u16_at, lookup, table, part_of}
 use Rattle.sheet.specs.Amounts.{u32_at, u64_at, amount_at}
+use Rattle.sheet.specs.declared.Entry.{Entry}
 use Rattle.sheet.specs.Fields.{text, figure, other, field_of, field}
-use Rattle.sheet.specs.declared.Found.{Found}
-use Rattle.sheet.specs.declared.Found.TheVariants.{At, Nothing}
 use Rattle.writer.proofs.RoundTrip.{Sized}
 use Rattle.transition.specs.Written.{Bytes}
+use Rattle.std.specs.Prelude.{None, Option, Some}
 
 take_bytes : (n : ℕ) (s : List ℕ) → Bytes s → Bytes (take n s)
 take_bytes zero s h k = omega arith
@@ -45,9 +45,9 @@ kind_sized false true body a h e =
     rw (← q) (read_sized body 0 h)
 kind_sized false false body a h e = let z : ◌≡◌ {A = ℕ} 0 1 = cc in absurd (omega arith)
 
-found_sized : (s : List ℕ) (f : Found) (a : Amount) → Bytes s → field_of s f ≡ figure a → Sized a
-found_sized s (At e) a h q = kind_sized (eqb e.kind 1) (eqb e.kind 3) (part_of s e) a (take_bytes e.len (drop e.offset s) (drop_bytes e.offset s h)) q
-found_sized s Nothing a h q = let z : ◌≡◌ {A = ℕ} 0 1 = cc in absurd (omega arith)
+found_sized : (s : List ℕ) (f : Option Entry) (a : Amount) → Bytes s → field_of s f ≡ figure a → Sized a
+found_sized s (Some e) a h q = kind_sized (eqb e.kind 1) (eqb e.kind 3) (part_of s e) a (take_bytes e.len (drop e.offset s) (drop_bytes e.offset s h)) q
+found_sized s None a h q = let z : ◌≡◌ {A = ℕ} 0 1 = cc in absurd (omega arith)
 
 pub field_sized : (s : List ℕ) → Bytes s → (name : ℕ) (a : Amount) → field s name ≡ figure a → Sized a
 unfolding field

@@ -12,37 +12,32 @@ use Rattle.amount.specs.Numbers.{limit, halves}
 use Rattle.amount.specs.Decimal.{all_digits, decimal}
 use Rattle.amount.specs.Amounts.{amount_if, read_of, compare_of, lesser_by, min_of, sum_of, difference_of}
 use Rattle.amount.specs.declared.Amount.{Amount}
-use Rattle.amount.specs.declared.uint128.Ordering.{Ordering}
-use Rattle.amount.specs.declared.uint128.Ordering.TheVariants.{Less, Equal, Greater}
-use Rattle.amount.specs.declared.AmountResult.{AmountResult}
-use Rattle.amount.specs.declared.AmountResult.TheVariants as Read
+use Rattle.std.specs.declared.cmp.Ordering.{Ordering}
+use Rattle.std.specs.declared.cmp.Ordering.TheVariants.{Less, Equal, Greater}
 use Rattle.sheet.specs.Fields.{Field, absent, text, figure, other, sight_of, field, three, unit, quantity, balance, amount, to_subject}
-use Rattle.sheet.specs.Sheet.{state_of, verdict_of}
+use Rattle.sheet.specs.Sheet.{state_of, sound_as}
 use Rattle.sheet.specs.declared.Shape.TheVariants.{Input}
 use Rattle.sheet.specs.declared.State.{State}
 use Rattle.sheet.specs.declared.State.TheVariants as Kind
-use Rattle.registry.specs.Refusals.{zero_amount}
+use Rattle.registry.specs.Refusals.{zero_amount, Outcome, Reading}
 use Rattle.registry.specs.Readers.{marked, parsed, given_or, amount_by, amount_in, amount_of, read_amount}
 use Rattle.registry.specs.Tests.{among, first, ◌then◌}
 use Rattle.registry.specs.Call.{called, state_sound, input_sound}
 use Rattle.registry.specs.declared.error.ProfileError.{ProfileError}
 use Rattle.registry.specs.declared.error.ProfileError.TheVariants.{FloatForbidden, NotWhole, UnknownOperation, NoCredit}
-use Rattle.registry.specs.declared.error.Outcome.{Outcome}
-use Rattle.registry.specs.declared.error.Outcome.TheVariants.{Accepted, Refused}
-use Rattle.registry.specs.declared.error.Reading.{Reading}
-use Rattle.registry.specs.declared.error.Reading.TheVariants.{Given, Failed}
 use Rattle.writer.proofs.RoundTrip.{Sized, Back, stack_back, balance_back, meter_back}
 use Rattle.resource_state.specs.Next.{Gives, zero, given, kept, the_sum, the_difference, lesser, Makes, a_stack, a_balance, a_meter, ApplyRow, unless_refused, amount_for, made, applied, text_from, sheet_of, with_amount}
 use Rattle.resource_state.specs.Apply.{stack_applies, balance_applies, meter_applies, stack_next, balance_next, meter_next, next_by, next_of}
 use Rattle.resource_state.specs.declared.Part.{Part}
 use Rattle.resource_state.specs.declared.ResourceState.{ResourceState}
 use Rattle.resource_state.specs.declared.ResourceState.TheVariants.{ConsumableStack, FungibleBalance, MeteredResource}
-use Rattle.resource_state.specs.declared.Next.{Next}
 use Rattle.transition.specs.Credit.{crediting, existing, unless_failed_by, with_more, credited_stack, credited_balance, credited_amount, credit_by, credit_of}
 use Rattle.transition.specs.Written.{Bytes}
 use Rattle.transition.specs.Helpers.{ShortTexts}
 use Rattle.transition.proofs.Lengths.{state_is_short, input_is_short, call_is_short}
 use Rattle.transition.proofs.Sizes.{field_sized}
+use Rattle.std.specs.Prelude.{Ok, Err}
+use Rattle.amount.specs.declared.AmountError.{AmountError}
 
 -- ---- every amount that a next state can have is one of 128 bits
 
@@ -57,14 +52,14 @@ halves_sized : (m scale : ℕ) → m < limit → Sized (record { mantissa = halv
 unfolding halves
 halves_sized m scale f = record { lo = mod-lt m (omega arith); hi = high_fits m f }
 
-if_sized : (e : ProfileError) (o : AmountResult) → read_amount (given_or e o) ≡ zero_amount → (t : Bool) (m scale : ℕ) → Sized (read_amount (given_or e (amount_if o t m scale)))
+if_sized : (e : ProfileError) (o : AmountError) (t : Bool) (m scale : ℕ) → Sized (read_amount (given_or e (amount_if o t m scale)))
 unfolding amount_if
-if_sized e o z t m scale = go t (ltb m limit) refl
+if_sized e o t m scale = go t (ltb m limit) refl
   where
-    go : (t u : Bool) → ltb m limit ≡ u → Sized (read_amount (given_or e (cond (t && u) (Read.Ok (record { mantissa = halves m; scale = scale })) o)))
+    go : (t u : Bool) → ltb m limit ≡ u → Sized (read_amount (given_or e (cond (t && u) (Ok (record { mantissa = halves m; scale = scale })) (Err o))))
     go true true q = halves_sized m scale (ltb-true m limit q)
-    go true false q = rw z zero_sized
-    go false u q = rw z zero_sized
+    go true false q = zero_sized
+    go false u q = zero_sized
 
 asked_sized : (n : ℕ) (f : Field) → Sized (read_amount (amount_in n f))
 unfolding amount_by parsed read_of
@@ -73,9 +68,9 @@ asked_sized n (figure a) = zero_sized
 asked_sized n other = zero_sized
 asked_sized n (text t) = go (marked t)
   where
-    go : (b : Bool) → Sized (read_amount (cond b (Failed (FloatForbidden n)) (given_or (NotWhole n) (amount_if Read.NotWhole (leb 1 (length t) && leb (length t) 39 && all_digits t) (decimal t) 0))))
+    go : (b : Bool) → Sized (read_amount (cond b (Err (FloatForbidden n)) (given_or (NotWhole n) (amount_if AmountError.NotWhole (leb 1 (length t) && leb (length t) 39 && all_digits t) (decimal t) 0))))
     go true = zero_sized
-    go false = if_sized (NotWhole n) Read.NotWhole refl (leb 1 (length t) && leb (length t) 39 && all_digits t) (decimal t) 0
+    go false = if_sized (NotWhole n) AmountError.NotWhole (leb 1 (length t) && leb (length t) 39 && all_digits t) (decimal t) 0
 
 held_sized : (n : ℕ) (f : Field) → ((a : Amount) → f ≡ figure a → Sized a) → Sized (read_amount (amount_of n f))
 unfolding amount_of
@@ -95,8 +90,8 @@ module _ (s i : List ℕ) (bytes : Bytes s) where
   amount_sized zero = zero_sized
   amount_sized (given n) = asked_sized n (field i n)
   amount_sized (kept n) = held_sized n (field s n) (field_sized s bytes n)
-  amount_sized (the_sum h a) = if_sized _ Read.Overflow refl _ _ _
-  amount_sized (the_difference h a) = if_sized _ Read.Underflow refl _ _ _
+  amount_sized (the_sum h a) = if_sized _ AmountError.Overflow _ _ _
+  amount_sized (the_difference h a) = if_sized _ AmountError.Underflow _ _ _
   amount_sized (lesser a h) =
       lesser_sized (compare_of (read_amount (amount_in a (field i a))) (read_amount (amount_of h (field s h)))) _ _ (asked_sized a (field i a)) (held_sized h (field s h) (field_sized s bytes h))
 
@@ -133,30 +128,30 @@ module _ (s i : List ℕ) (bytes : Bytes s) (short : ShortTexts s × ShortTexts 
   Alike kind [] = Unit {0}
   Alike kind (r ∷ rs) = (kind_made r.makes ≡ kind) × Alike kind rs
 
-  refused_no_state : {A : Type 0} (e : ProfileError) (n : ResourceState) → Next.Refused e ≡ Next.State n → A
+  refused_no_state : {A : Type 0} (e : ProfileError) (n : ResourceState) → Err e ≡ Ok n → A
   refused_no_state e n h = let z : ◌≡◌ {A = ℕ} 0 1 = cc in absurd (omega arith)
 
-  applied_written : (kind : State) (op : ℕ) (rs : List ApplyRow) → Alike kind rs → (n : ResourceState) → applied amount_in (sight_of s) (field i) op rs ≡ Next.State n → WrittenAs s i kind n
+  applied_written : (kind : State) (op : ℕ) (rs : List ApplyRow) → Alike kind rs → (n : ResourceState) → applied amount_in (sight_of s) (field i) op rs ≡ Ok n → WrittenAs s i kind n
   applied_written kind op [] a n h = refused_no_state UnknownOperation n h
   applied_written kind op (r ∷ rs) a n h = go (among op r.operations) (first amount_in (sight_of s) (field i) r.tests) (applied_written kind op rs a.1 n) h
     where
-      go : (t : Bool) (o : Outcome) → (applied amount_in (sight_of s) (field i) op rs ≡ Next.State n → WrittenAs s i kind n)
-          → cond t (unless_refused o (Next.State (made amount_in (sight_of s) (field i) r.makes))) (applied amount_in (sight_of s) (field i) op rs) ≡ Next.State n → WrittenAs s i kind n
-      go true Accepted rest k =
+      go : (t : Bool) (o : Outcome) → (applied amount_in (sight_of s) (field i) op rs ≡ Ok n → WrittenAs s i kind n)
+          → cond t (unless_refused o (Ok (made amount_in (sight_of s) (field i) r.makes))) (applied amount_in (sight_of s) (field i) op rs) ≡ Ok n → WrittenAs s i kind n
+      go true (Ok _) rest k =
           let e : made amount_in (sight_of s) (field i) r.makes ≡ n = cc in
           subst (λ x. WrittenAs s i kind x) e (subst (λ x. WrittenAs s i x (made amount_in (sight_of s) (field i) r.makes)) a.0 (made_written r.makes))
-      go true (Refused e) rest k = refused_no_state e n k
+      go true (Err e) rest k = refused_no_state e n k
       go false o rest k = rest k
 
-  pub stack_written : (op : ℕ) (n : ResourceState) → stack_next amount_in (sight_of s) (field i) op ≡ Next.State n → WrittenAs s i Kind.Stack n
+  pub stack_written : (op : ℕ) (n : ResourceState) → stack_next amount_in (sight_of s) (field i) op ≡ Ok n → WrittenAs s i Kind.Stack n
   unfolding stack_next
   stack_written op = applied_written Kind.Stack op stack_applies (refl, (refl, (refl, (refl, (refl, (refl, tt))))))
 
-  pub balance_written : (op : ℕ) (n : ResourceState) → balance_next amount_in (sight_of s) (field i) op ≡ Next.State n → WrittenAs s i Kind.Balance n
+  pub balance_written : (op : ℕ) (n : ResourceState) → balance_next amount_in (sight_of s) (field i) op ≡ Ok n → WrittenAs s i Kind.Balance n
   unfolding balance_next
   balance_written op = applied_written Kind.Balance op balance_applies (refl, (refl, (refl, (refl, (refl, tt)))))
 
-  pub meter_written : (op : ℕ) (n : ResourceState) → meter_next amount_in (sight_of s) (field i) op ≡ Next.State n → WrittenAs s i Kind.Meter n
+  pub meter_written : (op : ℕ) (n : ResourceState) → meter_next amount_in (sight_of s) (field i) op ≡ Ok n → WrittenAs s i Kind.Meter n
   unfolding meter_next
   meter_written op = applied_written Kind.Meter op meter_applies (refl, (refl, (refl, (refl, (refl, tt)))))
 
@@ -165,39 +160,39 @@ abbrev pub kind_of : ℕ → State
 kind_of p = cond (eqb p 1) Kind.Stack (cond (eqb p 2) Kind.Balance Kind.Meter)
 
 -- THE THEOREM
-pub written_back : (p op : ℕ) (s i : List ℕ) (n : ResourceState) → Bytes s → next_of p op s i ≡ Next.State n → WrittenAs s i (kind_of p) n
+pub written_back : (p op : ℕ) (s i : List ℕ) (n : ResourceState) → Bytes s → next_of p op s i ≡ Ok n → WrittenAs s i (kind_of p) n
 unfolding next_of
 written_back p op s i n bytes h = go (called p op s i) refl h
   where
     by : (t u : Bool) → ShortTexts s × ShortTexts i
-        → cond t (stack_next amount_in (sight_of s) (field i) op) (cond u (balance_next amount_in (sight_of s) (field i) op) (meter_next amount_in (sight_of s) (field i) op)) ≡ Next.State n
+        → cond t (stack_next amount_in (sight_of s) (field i) op) (cond u (balance_next amount_in (sight_of s) (field i) op) (meter_next amount_in (sight_of s) (field i) op)) ≡ Ok n
         → WrittenAs s i (cond t Kind.Stack (cond u Kind.Balance Kind.Meter)) n
     by true u short k = stack_written s i bytes short op n k
     by false true short k = balance_written s i bytes short op n k
     by false false short k = meter_written s i bytes short op n k
 
-    go : (o : Outcome) → called p op s i ≡ o → unless_refused o (next_by p op (sight_of s) (field i)) ≡ Next.State n → WrittenAs s i (kind_of p) n
-    go Accepted e k = by (eqb p 1) (eqb p 2) (call_is_short p op s i (sym e)) k
-    go (Refused z) e k = let q : ◌≡◌ {A = ℕ} 0 1 = cc in absurd (omega arith)
+    go : (o : Outcome) → called p op s i ≡ o → unless_refused o (next_by p op (sight_of s) (field i)) ≡ Ok n → WrittenAs s i (kind_of p) n
+    go (Ok _) e k = by (eqb p 1) (eqb p 2) (call_is_short p op s i (sym e)) k
+    go (Err z) e k = let q : ◌≡◌ {A = ℕ} 0 1 = cc in absurd (omega arith)
 
 -- ---- the far end of a transfer: of the operation's kind
 
 raised_sized : (r : Reading) (a : Amount) → Sized (read_amount (with_more r a))
 unfolding sum_of
-raised_sized (Given held) a = if_sized _ Read.Overflow refl _ _ _
-raised_sized (Failed e) a = zero_sized
+raised_sized (Ok held) a = if_sized _ AmountError.Overflow _ _ _
+raised_sized (Err e) a = zero_sized
 
 credited_sized : (o : Outcome) (r : Reading) → Sized (read_amount r) → Sized (read_amount (unless_failed_by o r))
-credited_sized Accepted r h = h
-credited_sized (Refused e) r h = zero_sized
+credited_sized (Ok _) r h = h
+credited_sized (Err e) r h = zero_sized
 
 module _ (s i : List ℕ) (short : ShortTexts s × ShortTexts i) (n : ResourceState) where
   with_written : (kind : State) (make : Amount → ResourceState) → ((a : Amount) → Sized a → WrittenAs s i kind (make a)) → (r : Reading) → Sized (read_amount r)
-      → with_amount r make ≡ Next.State n → WrittenAs s i kind n
-  with_written kind make w (Given a) z h =
+      → with_amount r make ≡ Ok n → WrittenAs s i kind n
+  with_written kind make w (Ok a) z h =
       let e : make a ≡ n = cc in
       subst (λ x. WrittenAs s i kind x) e (w a z)
-  with_written kind make w (Failed e) z h = let q : ◌≡◌ {A = ℕ} 0 1 = cc in absurd (omega arith)
+  with_written kind make w (Err e) z h = let q : ◌≡◌ {A = ℕ} 0 1 = cc in absurd (omega arith)
 
   stack_credited : (a : Amount) → Sized a → WrittenAs s i Kind.Stack (credited_stack a)
   unfolding sheet_of
@@ -211,10 +206,10 @@ module _ (s i : List ℕ) (short : ShortTexts s × ShortTexts i) (n : ResourceSt
 abbrev pub kind_by : ℕ → State
 kind_by op = cond (eqb op 5) Kind.Stack Kind.Balance
 
-pub credit_written_back : (op : ℕ) (s d i : List ℕ) (n : ResourceState) → credit_of op s d i ≡ Next.State n → WrittenAs s i (kind_by op) n
+pub credit_written_back : (op : ℕ) (s d i : List ℕ) (n : ResourceState) → credit_of op s d i ≡ Ok n → WrittenAs s i (kind_by op) n
 unfolding credit_of credit_by
 credit_written_back op s d i n h =
-    go (state_sound 1 (state_of s)) (state_sound 2 (state_of d)) (input_sound (verdict_of Input i)) (eqb op 5) (eqb op 15) refl refl h
+    go (state_sound 1 (state_of s)) (state_sound 2 (state_of d)) (input_sound (sound_as Input i)) (eqb op 5) (eqb op 15) refl refl h
   where
     sized : (held asked : ℕ) → Sized (read_amount (credited_amount amount_in (sight_of s) (sight_of d) (field i) held asked))
     sized held asked =
@@ -223,18 +218,18 @@ credit_written_back op s d i n h =
 
     by : (t u : Bool) → ShortTexts s × ShortTexts i
         → cond t (with_amount (credited_amount amount_in (sight_of s) (sight_of d) (field i) quantity quantity) credited_stack)
-        (cond u (with_amount (credited_amount amount_in (sight_of s) (sight_of d) (field i) balance amount) credited_balance) (Next.Refused NoCredit)) ≡ Next.State n
+        (cond u (with_amount (credited_amount amount_in (sight_of s) (sight_of d) (field i) balance amount) credited_balance) (Err NoCredit)) ≡ Ok n
         → WrittenAs s i (cond t Kind.Stack Kind.Balance) n
     by true u short k = with_written s i short n Kind.Stack credited_stack (stack_credited s i short n) (credited_amount amount_in (sight_of s) (sight_of d) (field i) quantity quantity) (sized quantity quantity) k
     by false true short k = with_written s i short n Kind.Balance credited_balance (balance_credited s i short n) (credited_amount amount_in (sight_of s) (sight_of d) (field i) balance amount) (sized balance amount) k
     by false false short k = let q : ◌≡◌ {A = ℕ} 0 1 = cc in absurd (omega arith)
 
-    go : (x y z : Outcome) (t u : Bool) → state_sound 1 (state_of s) ≡ x → input_sound (verdict_of Input i) ≡ z
+    go : (x y z : Outcome) (t u : Bool) → state_sound 1 (state_of s) ≡ x → input_sound (sound_as Input i) ≡ z
         → unless_refused (x then y then z)
         (cond t (with_amount (credited_amount amount_in (sight_of s) (sight_of d) (field i) quantity quantity) credited_stack)
-        (cond u (with_amount (credited_amount amount_in (sight_of s) (sight_of d) (field i) balance amount) credited_balance) (Next.Refused NoCredit))) ≡ Next.State n
+        (cond u (with_amount (credited_amount amount_in (sight_of s) (sight_of d) (field i) balance amount) credited_balance) (Err NoCredit))) ≡ Ok n
         → WrittenAs s i (cond t Kind.Stack Kind.Balance) n
-    go Accepted Accepted Accepted t u e f k = by t u (state_is_short s 1 (sym e), input_is_short i (sym f)) k
-    go Accepted Accepted (Refused r) t u e f k = let q : ◌≡◌ {A = ℕ} 0 1 = cc in absurd (omega arith)
-    go Accepted (Refused r) z t u e f k = let q : ◌≡◌ {A = ℕ} 0 1 = cc in absurd (omega arith)
-    go (Refused r) y z t u e f k = let q : ◌≡◌ {A = ℕ} 0 1 = cc in absurd (omega arith)
+    go (Ok _) (Ok _) (Ok _) t u e f k = by t u (state_is_short s 1 (sym e), input_is_short i (sym f)) k
+    go (Ok _) (Ok _) (Err r) t u e f k = let q : ◌≡◌ {A = ℕ} 0 1 = cc in absurd (omega arith)
+    go (Ok _) (Err r) z t u e f k = let q : ◌≡◌ {A = ℕ} 0 1 = cc in absurd (omega arith)
+    go (Err r) y z t u e f k = let q : ◌≡◌ {A = ℕ} 0 1 = cc in absurd (omega arith)

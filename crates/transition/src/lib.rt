@@ -2,21 +2,22 @@
 // state, `credit` the far end of a transfer. Both take any bytes; a refusal leaves the buffer as it was.
 #![tactic(auto)]
 
-ghost use Rattle.std.specs.Prelude.{◌≡◌};
+ghost use Rattle.std.specs.Prelude.{◌≡◌, ◌<◌};
+ghost use Rattle.std.specs.Option.{ForSome};
 ghost use Rattle.sheet.specs.Fields.{field, sight_of};
 ghost use Rattle.resource_state.specs.Next.{text_from};
 ghost use Rattle.resource_state.specs.Apply.{next_by, next_of};
 ghost use Rattle.transition.specs.Credit.{credit_of};
 ghost use Rattle.transition.specs.Written.{written_of, put_of, state_answer, state_buffer, answer_to, buffer_after};
-ghost use Rattle.transition.specs.Helpers.{PutFits, ShortTexts};
+ghost use Rattle.transition.specs.Helpers.{answered, ShortTexts};
 
 mod transfer;
 
 use amount::Amount;
-use registry::error::{Answer, Outcome, ProfileError, refusal};
+use registry::error::{Answer, ProfileError};
 use registry::op;
-use resource_state::{Next, Part, ResourceState};
-use writer::Put;
+use resource_state::{Part, ResourceState};
+use sheet::{BALANCE_FORM, STACK_FORM};
 
 // Refusals 1 to 4, then those of the operation's reads and arithmetic, then 20: the buffer is too short.
 pub fn apply<'a>(
@@ -29,15 +30,7 @@ pub fn apply<'a>(
     ensures { (result ≡ answer_to (next_of profile operation state.now input.now) state.now input.now out.old)
         × (out.new ≡ buffer_after (next_of profile operation state.now input.now) state.now input.now out.old) }
 {
-    if let Outcome::Refused(e) = registry::require_call(profile, operation, state, input) {
-        return refusal(e);
-    }
-    put(
-        next_state(profile, operation, state, input),
-        state,
-        input,
-        out,
-    )
+    answered(try_apply(profile, operation, state, input, out))
 }
 
 // Refusal 1 of the source, 1 of the destination, 2, 19: no transfer, those of the reads and the sum, then 20: the buffer is too short.
@@ -51,24 +44,57 @@ pub fn credit<'a>(
     ensures { (result ≡ answer_to (credit_of operation source.now destination.now input.now) source.now input.now out.old)
         × (out.new ≡ buffer_after (credit_of operation source.now destination.now input.now) source.now input.now out.old) }
 {
-    if let Outcome::Refused(e) = registry::require_sound_state(source, 1) {
-        return refusal(e);
-    }
-    if let Outcome::Refused(e) = registry::require_sound_state(destination, 2) {
-        return refusal(e);
-    }
-    if let Outcome::Refused(e) = registry::require_sound_input(input) {
-        return refusal(e);
-    }
-    put(
-        transfer::transfer_after_state(operation, source, destination, input),
-        source,
-        input,
-        out,
-    )
+    answered(try_credit(operation, source, destination, input, out))
 }
 
-fn next_state(profile: u8, operation: u8, state: &[u8], input: &[u8]) -> Next
+// The length that was written, as an answer.
+fn answered(written: Result<u16, ProfileError>) -> Answer
+    ensures { result ≡ answered written }
+{
+    match written {
+        Ok(length) => accepted(length),
+        Err(e) => Answer::from(e),
+    }
+}
+
+fn try_apply<'a>(
+    profile: u8,
+    operation: u8,
+    state: &'a [u8],
+    input: &'a [u8],
+    out: &mut [u8],
+) -> Result<u16, ProfileError>
+    ensures { (answered result ≡ answer_to (next_of profile operation state.now input.now) state.now input.now out.old)
+        × (out.new ≡ buffer_after (next_of profile operation state.now input.now) state.now input.now out.old) }
+{
+    registry::require_call(profile, operation, state, input)?;
+    let next = next_state(profile, operation, state, input)?;
+    put(next, state, input, out)
+}
+
+fn try_credit<'a>(
+    operation: u8,
+    source: &'a [u8],
+    destination: &[u8],
+    input: &'a [u8],
+    out: &mut [u8],
+) -> Result<u16, ProfileError>
+    ensures { (answered result ≡ answer_to (credit_of operation source.now destination.now input.now) source.now input.now out.old)
+        × (out.new ≡ buffer_after (credit_of operation source.now destination.now input.now) source.now input.now out.old) }
+{
+    registry::require_sound_state(source, 1)?;
+    registry::require_sound_state(destination, 2)?;
+    registry::require_sound_input(input)?;
+    let next = transfer::transfer_after_state(operation, source, destination, input)?;
+    put(next, source, input, out)
+}
+
+fn next_state(
+    profile: u8,
+    operation: u8,
+    state: &[u8],
+    input: &[u8],
+) -> Result<ResourceState, ProfileError>
     ensures { result ≡ next_by profile operation (sight_of state.now) (field input.now) }
 {
     match profile {
@@ -79,41 +105,30 @@ fn next_state(profile: u8, operation: u8, state: &[u8], input: &[u8]) -> Next
 }
 
 // Writes a next state whose texts stand in these two sheets.
-fn put<'a>(next: Next, state: &'a [u8], input: &'a [u8], out: &mut [u8]) -> Answer
+fn put<'a>(
+    next: ResourceState,
+    state: &'a [u8],
+    input: &'a [u8],
+    out: &mut [u8],
+) -> Result<u16, ProfileError>
     requires { ShortTexts state.now × ShortTexts input.now }
-    ensures { (result ≡ answer_to next state.now input.now out.old)
-        × (out.new ≡ buffer_after next state.now input.now out.old) }
+    ensures { (answered result ≡ state_answer next state.now input.now out.old)
+        × (out.new ≡ state_buffer next state.now input.now out.old) }
 {
     match next {
-        Next::State(s) => put_state(s, state, input, out),
-        Next::Refused(e) => refusal(e),
-    }
-}
-
-fn put_state<'a>(s: ResourceState, state: &'a [u8], input: &'a [u8], out: &mut [u8]) -> Answer
-    requires { ShortTexts state.now × ShortTexts input.now }
-    ensures { (result ≡ state_answer s state.now input.now out.old)
-        × (out.new ≡ state_buffer s state.now input.now out.old) }
-{
-    match s {
         ResourceState::ConsumableStack(n) => {
-            let subject = n.subject;
-            let unit = n.unit;
-            let subject_text = part_text(subject, state, input);
-            let unit_text = part_text(unit, state, input);
-            answered(writer::put_stack(out, subject_text, unit_text, n.quantity))
+            let subject = part_text(n.subject, state, input);
+            let unit = part_text(n.unit, state, input);
+            fitted(writer::put_holding(out, STACK_FORM, subject, unit, n.quantity))
         }
         ResourceState::FungibleBalance(n) => {
-            let subject = n.subject;
-            let unit = n.unit;
-            let subject_text = part_text(subject, state, input);
-            let unit_text = part_text(unit, state, input);
-            answered(writer::put_balance(out, subject_text, unit_text, n.balance))
+            let subject = part_text(n.subject, state, input);
+            let unit = part_text(n.unit, state, input);
+            fitted(writer::put_holding(out, BALANCE_FORM, subject, unit, n.balance))
         }
         ResourceState::MeteredResource(n) => {
-            let subject = n.subject;
-            let subject_text = part_text(subject, state, input);
-            answered(writer::put_meter(out, subject_text, n.remaining, n.maximum))
+            let subject = part_text(n.subject, state, input);
+            fitted(writer::put_meter(out, subject, n.remaining, n.maximum))
         }
     }
 }
@@ -128,14 +143,13 @@ fn part_text<'a>(part: Part, state: &'a [u8], input: &'a [u8]) -> &'a [u8]
     }
 }
 
-fn answered(put: Put) -> Answer
-    requires { PutFits put }
-    ensures { result ≡ put_of put }
+// Refusal 20: what was to be written does not fit.
+fn fitted(written: Option<usize>) -> Result<u16, ProfileError>
+    requires { ForSome written (λ n. n < 65536) }
+    ensures { answered result ≡ put_of written }
 {
-    match put {
-        Put::Done(n) => accepted(n as u16),
-        Put::Narrow => refusal(ProfileError::Narrow),
-    }
+    let n = written.ok_or(ProfileError::Narrow)?;
+    Ok(n as u16)
 }
 
 fn accepted(length: u16) -> Answer

@@ -5,10 +5,10 @@ ghost use Rattle.registry.specs.Readers.{amount_in};
 ghost use Rattle.transition.specs.Credit.{existing, credited_amount, credit_by};
 
 use amount::Amount;
-use registry::error::{Outcome, ProfileError, Reading};
-use registry::{given_or, input_amount, input_str, op, require_current, state_amount, state_str};
+use registry::error::ProfileError;
+use registry::{input_amount, input_str, op, require_current, state_amount, state_str};
 use resource_state::holding::{balance, stack};
-use resource_state::{Next, Part};
+use resource_state::{Part, ResourceState};
 use sheet::{AMOUNT, BALANCE, QUANTITY, TO_SUBJECT, UNIT};
 
 pub(crate) fn transfer_after_state(
@@ -16,7 +16,7 @@ pub(crate) fn transfer_after_state(
     source: &[u8],
     destination: &[u8],
     input: &[u8],
-) -> Next
+) -> Result<ResourceState, ProfileError>
     ensures { result ≡ credit_by amount_in (sight_of source.now) (sight_of destination.now) (field input.now) operation }
 {
     if operation == op::STACK_TRANSFER {
@@ -33,39 +33,33 @@ pub(crate) fn transfer_after_state(
             credited_amount(source, destination, input, BALANCE, AMOUNT),
         );
     }
-    Next::Refused(ProfileError::NoCredit)
+    Err(ProfileError::NoCredit)
 }
 
 // What the destination has; nothing where it is absent.
-fn existing_amount(destination: &[u8], held: u8) -> Reading
+fn existing_amount(destination: &[u8], held: u8) -> Result<Amount, ProfileError>
     ensures { result ≡ existing held (sight_of destination.now) }
 {
-    if destination.len() == 0 {
-        return Reading::Given(Amount::ZERO);
+    if destination.is_empty() {
+        return Ok(Amount::ZERO);
     }
     state_amount(destination, held)
 }
 
 // Refusal 6: no source; then the input's to_subject, the source's unit, the amount asked for, what the destination has, the sum.
-fn credited_amount(source: &[u8], destination: &[u8], input: &[u8], held: u8, asked: u8) -> Reading
+fn credited_amount(
+    source: &[u8],
+    destination: &[u8],
+    input: &[u8],
+    held: u8,
+    asked: u8,
+) -> Result<Amount, ProfileError>
     ensures { result ≡ credited_amount amount_in (sight_of source.now) (sight_of destination.now) (field input.now) held asked }
 {
-    if let Outcome::Refused(e) = require_current(source) {
-        return Reading::Failed(e);
-    }
-    if let Outcome::Refused(e) = input_str(input, TO_SUBJECT) {
-        return Reading::Failed(e);
-    }
-    if let Outcome::Refused(e) = state_str(source, UNIT) {
-        return Reading::Failed(e);
-    }
-    let amount = match input_amount(input, asked) {
-        Reading::Given(a) => a,
-        Reading::Failed(e) => return Reading::Failed(e),
-    };
-    let existing = match existing_amount(destination, held) {
-        Reading::Given(a) => a,
-        Reading::Failed(e) => return Reading::Failed(e),
-    };
-    given_or(existing.checked_add(amount), ProfileError::Overflow)
+    require_current(source)?;
+    input_str(input, TO_SUBJECT)?;
+    state_str(source, UNIT)?;
+    let amount = input_amount(input, asked)?;
+    let existing = existing_amount(destination, held)?;
+    existing.checked_add(amount).or(Err(ProfileError::Overflow))
 }

@@ -1,40 +1,20 @@
 -- "3 amount (17 bytes: mantissa, scale)": the bytes of an amount read back as the amount. The theorem is `amount_back`.
-use mathlib.Core.Path.{◌≡◌}
+use mathlib.Core.Path.{◌≡◌, ◌∙◌}
 use mathlib.Core.List.{List, ◌∷◌, ◌++◌}
-use Prim.Native.Nat.{ℕ, ◌+◌, ◌*◌, ◌/◌, ◌%◌, ◌<◌, ◌^◌}
+use Prim.Native.Nat.{ℕ, ◌+◌, ◌*◌, ◌<◌, ◌^◌}
 use native.Mathlib.Omega.{arith}
+use Rattle.std.proofs.lemmas.Nat.{from_le_bytes-to_le_bytes_8}
 use Rattle.amount.specs.declared.Amount.{Amount}
 use Rattle.sheet.specs.Amounts.{u64_at, le8, amount_at, amount_bytes}
 
--- two digits are one of twice the width. (One `omega` for all eight bytes stops at its bound of 2000 inequalities)
-two : (n : ℕ) → n % 256 + 256 * (n / 256 % 256) ≡ n % 65536
-two n = omega arith
-
-four : (n : ℕ) → n % 65536 + 65536 * (n / 65536 % 65536) ≡ n % 4294967296
-four n = omega arith
-
-eight : (n : ℕ) → n % 4294967296 + 4294967296 * (n / 4294967296 % 4294967296) ≡ n % 18446744073709551616
-eight n = omega arith
-
-by_256 : (n : ℕ) → n / 65536 / 256 ≡ n / 16777216
-by_256 n = omega arith
-
-by_256' : (n : ℕ) → n / 4294967296 / 256 ≡ n / 1099511627776
-by_256' n = omega arith
-
-by_65536 : (n : ℕ) → n / 4294967296 / 65536 ≡ n / 281474976710656
-by_65536 n = omega arith
-
-by_256'' : (n : ℕ) → n / 281474976710656 / 256 ≡ n / 72057594037927936
-by_256'' n = omega arith
-
-small : (n : ℕ) → n < 2 ^ 64 → n % 18446744073709551616 ≡ n
-small n h = omega arith
+-- pairs of pairs of bytes are eight bytes in a row, as std has them
+in_pairs : (a b c d e f g h : ℕ)
+    → a + 256 * b + 65536 * (c + 256 * d) + 4294967296 * (e + 256 * f + 65536 * (g + 256 * h))
+    ≡ a + b * 256 + c * 65536 + d * 16777216 + e * 4294967296 + f * 1099511627776 + g * 281474976710656 + h * 72057594037927936
+in_pairs a b c d e f g h = omega arith
 
 pub le8_back : (n : ℕ) (rest : List ℕ) → n < 2 ^ 64 → u64_at (le8 n rest) 0 ≡ n
-le8_back n rest h =
-    cc
-    (two n, two (n / 65536), two (n / 4294967296), two (n / 281474976710656), by_256 n, by_256' n, by_65536 n, by_256'' n, four n, four (n / 4294967296), eight n, small n h)
+le8_back n rest h = in_pairs _ _ _ _ _ _ _ _ ∙ from_le_bytes-to_le_bytes_8 n h
 
 -- THE THEOREM: wherever its bytes stand first
 pub amount_back : (a : Amount) (rest : List ℕ) → a.mantissa.lo < 2 ^ 64 → a.mantissa.hi < 2 ^ 64 → amount_at (amount_bytes a ++ rest) 0 ≡ a

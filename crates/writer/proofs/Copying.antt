@@ -5,18 +5,13 @@ use mathlib.Core.Bool.{Bool, true, false, cond}
 use Prim.Native.Nat.{ℕ, ◌+◌, ◌≤◌, ◌<◌}
 use native.Mathlib.Omega.{arith}
 use lib.ListN.{length, drop, length-append}
-use lib.Seq.{paste, take-length, take_at, drop-append-add, drop-drop}
+use lib.Seq.{take_at, drop-append-add, drop-drop}
 use lib.Dec.{leb}
 use borrow.Author.Tests.{le-leb, lt-leb}
 use Rattle.sheet.specs.declared.Form.{Form}
-use Rattle.writer.specs.declared.Put.{Put}
-use Rattle.writer.specs.declared.Put.TheVariants.{Done, Narrow}
+use Rattle.std.specs.Prelude.{Some, None}
 use Rattle.writer.specs.Encode.{over, encode, form_items, entry_bytes, put_into, put_answer}
 use Rattle.writer.specs.Helpers.{overlay, head_of}
-
--- a copy of all of src
-pub pasted : (d : List ℕ) (at : ℕ) (src out : List ℕ) (i : ℕ) → i ≡ length src → out ≡ paste d at src i → out ≡ overlay d at src
-pasted d at src out i e h = h ∙ rw (e, take-length, append_assoc)
 
 -- src written right behind p: no bound is asked
 behind : (p rest src : List ℕ) (at : ℕ) → at ≡ length p → overlay (p ++ rest) at src ≡ p ++ (src ++ drop (length src) rest)
@@ -40,22 +35,22 @@ joined f x y z =
 module _ (f : Form) (x y z old : List ℕ) where
   -- no room: the answer, and the bytes as they were
   pub too_short : length old < 19 + length x + length y + length z
-      → (Narrow ≡ put_answer (encode (form_items f x y z)) old) × (old ≡ put_into (encode (form_items f x y z)) old)
+      → (None ≡ put_answer (encode (form_items f x y z)) old) × (old ≡ put_into (encode (form_items f x y z)) old)
   unfolding put_answer put_into
   too_short h =
       let e : leb (length (encode (form_items f x y z))) (length old) ≡ false = lt-leb (length (encode (form_items f x y z))) (length old) (omega (arith, three_length f x y z)) in
-      (sym (ap (λ (b : Bool). cond b (Done (length (encode (form_items f x y z)))) Narrow) e), sym (ap (λ (b : Bool). cond b (over (encode (form_items f x y z)) old) old) e))
+      (sym (ap (λ (b : Bool). cond b (Some (length (encode (form_items f x y z)))) None) e), sym (ap (λ (b : Bool). cond b (over (encode (form_items f x y z)) old) old) e))
 
   -- the head and the three bodies, one behind the other
-  pub four_writes : (second third : ℕ) (h d₁ d₂ d₃ d₄ : List ℕ)
-      → second ≡ 19 + length x → third ≡ second + length y → third + length z ≤ length old
+  pub four_writes : (second third end : ℕ) (h d₁ d₂ d₃ d₄ : List ℕ)
+      → second ≡ 19 + length x → third ≡ second + length y → end ≡ third + length z → end ≤ length old
       → h ≡ head_of f (length x) second (length y) third (length z)
       → d₁ ≡ overlay old 0 h → d₂ ≡ overlay d₁ 19 x → d₃ ≡ overlay d₂ second y → d₄ ≡ overlay d₃ third z
-      → (Done (third + length z) ≡ put_answer (encode (form_items f x y z)) old) × (d₄ ≡ put_into (encode (form_items f x y z)) old)
+      → (Some end ≡ put_answer (encode (form_items f x y z)) old) × (d₄ ≡ put_into (encode (form_items f x y z)) old)
   unfolding put_answer put_into
-  four_writes second third h d₁ d₂ d₃ d₄ es et fits eh e₁ e₂ e₃ e₄ =
+  four_writes second third end h d₁ d₂ d₃ d₄ es et ee fits eh e₁ e₂ e₃ e₄ =
       let w : List ℕ = encode (form_items f x y z) in
-      let lw : length w ≡ third + length z = omega (arith, three_length f x y z) in
+      let lw : length w ≡ end = omega (arith, three_length f x y z) in
       let e : leb (length w) (length old) ≡ true = le-leb (length w) (length old) (omega arith) in
       let lh : length h ≡ 19 = ap length eh in
       let g₁ : d₁ ≡ over h old = e₁ ∙ over_next [] h old 0 refl in
@@ -63,12 +58,6 @@ module _ (f : Form) (x y z old : List ℕ) where
       let g₃ : d₃ ≡ over (h ++ x ++ y) old = e₃ ∙ (rw g₂ (over_next (h ++ x) y old second (rw length-append (omega arith)))) in
       let g₄ : d₄ ≡ over (h ++ x ++ y ++ z) old = e₄ ∙ (rw g₃ (over_next (h ++ x ++ y) z old third (simp length-append (omega arith)))) in
       let gw : h ++ x ++ y ++ z ≡ w = rw (eh, et, es) (joined f x y z) in (
-        ap Done (sym lw) ∙ sym (ap (λ (b : Bool). cond b (Done (length w)) Narrow) e),
+        ap Some (sym lw) ∙ sym (ap (λ (b : Bool). cond b (Some (length w)) None) e),
         g₄ ∙ ap (λ (v : List ℕ). over v old) gw ∙ sym (ap (λ (b : Bool). cond b (over w old) old) e),
       )
-
--- the same sheet, its second and third body under other names
-pub formed : (f : Form) (x y y' z z' old out : List ℕ) (r : Put) → y ≡ y' → z ≡ z'
-    → (r ≡ put_answer (encode (form_items f x y z)) old) × (out ≡ put_into (encode (form_items f x y z)) old)
-    → (r ≡ put_answer (encode (form_items f x y' z')) old) × (out ≡ put_into (encode (form_items f x y' z')) old)
-formed f x y y' z z' old out r p q h = rw (← p, ← q) h

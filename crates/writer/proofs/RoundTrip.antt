@@ -15,7 +15,7 @@ use Rattle.sheet.specs.declared.State.{State}
 use Rattle.sheet.specs.Sheet.{entry_at, entries_from, table, part_of, length_fits, is_form, sound_as, state_of, stack_form, balance_form, meter_form}
 use Rattle.sheet.specs.Amounts.{amount_at, amount_bytes}
 use Rattle.sheet.specs.Fields.{Field, text, figure, field_of_kind, field, three}
-use Rattle.writer.specs.Encode.{encode, form_items, stack_sheet, balance_sheet, meter_sheet}
+use Rattle.writer.specs.Encode.{encode, form_items, holding_sheet, stack_sheet, balance_sheet, meter_sheet}
 use Rattle.writer.proofs.Copying.{three_length}
 use Rattle.writer.proofs.AmountBytes.{amount_back}
 use Rattle.sheet.proofs.Three.{three_fields, stack_is, balance_is, meter_is}
@@ -107,23 +107,23 @@ pub record Back (s : List ℕ) (kind : State) (view : ℕ → Field) : Type 0 wh
 
 module _ (x : List ℕ) (lx : length x ≤ 256) where
   module _ (y : List ℕ) (ly : length y ≤ 256) (a : Amount) (ha : Sized a) where
-    pub stack_back : Back (stack_sheet x y a) State.Stack (three 1 (text x) 2 (text y) 3 (figure a))
-    unfolding stack_sheet sound_as
-    stack_back =
+    -- of a form whose second field is a text, and that is of one kind where it is sound
+    holding_back : (f : Form) (kind : State) → f.kind ≡ 1 → ((s : List ℕ) → is_form f s ≡ true → state_of s ≡ kind)
+        → Back (holding_sheet f x y a) kind (three 1 (text x) f.second (text y) f.third (figure a))
+    holding_back f kind t known =
         let z : List ℕ = amount_bytes a in
         record {
-          is = stack_is _ (sound_back stack_form x y z (omega arith) (omega arith) lx (le-leb _ _ ly) refl);
-          fields = λ name. fields_back stack_form x y z (omega arith) (omega arith) name ∙ rw (read_back a ha);
+          is = known _ (sound_back f x y z (omega arith) (omega arith) lx (rw t (le-leb _ _ ly)) refl);
+          fields = λ name. fields_back f x y z (omega arith) (omega arith) name ∙ rw (t, read_back a ha);
         }
+
+    pub stack_back : Back (stack_sheet x y a) State.Stack (three 1 (text x) 2 (text y) 3 (figure a))
+    unfolding stack_sheet sound_as
+    stack_back = holding_back stack_form State.Stack refl stack_is
 
     pub balance_back : Back (balance_sheet x y a) State.Balance (three 1 (text x) 2 (text y) 4 (figure a))
     unfolding balance_sheet sound_as
-    balance_back =
-        let z : List ℕ = amount_bytes a in
-        record {
-          is = balance_is _ (sound_back balance_form x y z (omega arith) (omega arith) lx (le-leb _ _ ly) refl);
-          fields = λ name. fields_back balance_form x y z (omega arith) (omega arith) name ∙ rw (read_back a ha);
-        }
+    balance_back = holding_back balance_form State.Balance refl balance_is
 
   pub meter_back : (r m : Amount) → Sized r → Sized m → Back (meter_sheet x r m) State.Meter (three 1 (text x) 5 (figure r) 6 (figure m))
   unfolding meter_sheet sound_as

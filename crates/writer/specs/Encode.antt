@@ -1,11 +1,9 @@
 -- Document 01, section "Sheets": the bytes of a state sheet that is written, and the buffer after it.
-use Rattle.std.specs.Prelude.{cond, List, [], ◌∷◌, ◌++◌, ℕ, ◌+◌, ◌*◌, ◌/◌, ◌%◌, length, drop, leb}
+use Rattle.std.specs.Prelude.{cond, List, [], ◌∷◌, ◌++◌, Option, Some, None, ℕ, ◌+◌, ◌*◌, ◌/◌, ◌%◌, length, drop, leb}
 use Rattle.amount.specs.declared.Amount.{Amount}
 use Rattle.sheet.specs.Amounts.{amount_bytes}
 use Rattle.sheet.specs.Sheet.{stack_form, balance_form, meter_form}
 use Rattle.sheet.specs.declared.Form.{Form}
-use Rattle.writer.specs.declared.Put.{Put}
-use Rattle.writer.specs.declared.Put.TheVariants.{Done, Narrow}
 
 -- a field to be written
 pub record Item : Type 0 where
@@ -37,12 +35,16 @@ item name kind body = record { name = name; kind = kind; body = body }
 abbrev pub form_items : Form → List ℕ → List ℕ → List ℕ → List Item
 form_items f x y z = item 1 1 x ∷ item f.second f.kind y ∷ item f.third 3 z ∷ []
 
+-- a state of a subject, a unit and an amount
+abbrev pub holding_sheet : Form → List ℕ → List ℕ → Amount → List ℕ
+holding_sheet f subject unit amount = encode (form_items f subject unit (amount_bytes amount))
+
 -- the three states
 unfoldable pub stack_sheet : List ℕ → List ℕ → Amount → List ℕ
-stack_sheet subject unit quantity = encode (form_items stack_form subject unit (amount_bytes quantity))
+stack_sheet subject unit quantity = holding_sheet stack_form subject unit quantity
 
 unfoldable pub balance_sheet : List ℕ → List ℕ → Amount → List ℕ
-balance_sheet subject unit balance = encode (form_items balance_form subject unit (amount_bytes balance))
+balance_sheet subject unit balance = holding_sheet balance_form subject unit balance
 
 unfoldable pub meter_sheet : List ℕ → Amount → Amount → List ℕ
 meter_sheet subject remaining maximum = encode (form_items meter_form subject (amount_bytes remaining) (amount_bytes maximum))
@@ -55,5 +57,5 @@ over w old = w ++ drop (length w) old
 unfoldable pub put_into : List ℕ → List ℕ → List ℕ
 put_into w old = cond (leb (length w) (length old)) (over w old) old
 
-unfoldable pub put_answer : List ℕ → List ℕ → Put
-put_answer w old = cond (leb (length w) (length old)) (Done (length w)) Narrow
+unfoldable pub put_answer : List ℕ → List ℕ → Option ℕ
+put_answer w old = cond (leb (length w) (length old)) (Some (length w)) None

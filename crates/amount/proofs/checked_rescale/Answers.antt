@@ -1,16 +1,18 @@
-use Rattle.amount.proofs.Multiplying.{lacks_all, lacks_none, lacks_outside, lacks_less}
+use Rattle.amount.proofs.Multiplying.{scaled_all, scaled_over, scaled_more}
 use Rattle.amount.proofs.Halves.{whole_of}
-use Rattle.std.proofs.Common.{sym, ◌∙◌, arith}
+use Rattle.std.proofs.Common.{◌≡◌, sym, ◌∙◌, mul-one, arith}
 use Rattle.amount.proofs.checked_rescale.Goals as goal
 
-pub loop-left-init : goal.loop-left-init
-loop-left-init c = lacks_all (whole_of _ (omega arith) (omega arith))
+pub loop-init : goal.loop-init
+loop-init c = (sym (mul-one _), whole_of _ (omega arith) (omega arith))
 
-pub returns-in_default : goal.returns-in_default
-returns-in_default c = lacks_outside c.loop-left.invariant (omega arith) (sym c.in_default.is ∙ c.times_ten_plus.ensures)
+pub returns-in_err-number : goal.returns-in_err-number
+returns-in_err-number c = c.from_residual.ensures ∙ scaled_over _ _ _ c.loop.invariant.0 _ (omega arith) (sym c.in_err-number.was ∙ c.mul_add.ensures)
 
-pub loop-left-preserved : goal.loop-left-preserved
-loop-left-preserved c = lacks_less c.loop-left.invariant (omega arith) _ (sym c.in-Some.is ∙ c.times_ten_plus.ensures)
+pub loop-preserved : goal.loop-preserved
+loop-preserved c = scaled_more _ _ _ c.loop.invariant.0 _ (sym c.in_ok-number.was ∙ c.mul_add.ensures)
 
 pub returns : goal.returns
-returns c = lacks_none c.loop-left.invariant (omega arith)
+returns c =
+    let e : c.args.places ≡ c.loop.counter = omega arith in
+    rw e (scaled_all _ _ _ c.loop.invariant.0 c.loop.invariant.1)

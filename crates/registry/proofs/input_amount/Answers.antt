@@ -1,19 +1,17 @@
 use mathlib.Core.Path.{◌≡◌, refl, sym}
-use Rattle.amount.specs.declared.AmountResult.{AmountResult}
-use Rattle.amount.specs.declared.AmountResult.TheVariants.{Ok, NotWhole, Overflow, Underflow}
 use Rattle.registry.specs.declared.error.ProfileError.{ProfileError}
-use Rattle.registry.specs.declared.error.Reading.TheVariants as R
 use Rattle.registry.proofs.Readers.{amount_in_is}
 use Rattle.registry.specs.Readers.{amount_by, given_or}
 use Rattle.sheet.specs.Fields.{field}
 use Rattle.registry.proofs.input_amount.Goals.{In_default-parse_amount_str}
 use Rattle.registry.proofs.input_amount.Goals as goal
+use Rattle.std.specs.Prelude.{Result, Ok, Err}
+use Rattle.amount.specs.declared.AmountError.{AmountError}
+use Rattle.amount.specs.declared.Amount.{Amount}
 
-refused : (c : In_default-parse_amount_str) (o : AmountResult) (e : ProfileError) → o ≡ c.parse_amount_str.result → R.Failed e ≡ given_or e o
+refused : (c : In_default-parse_amount_str) (o : Result Amount AmountError) (e : ProfileError) → o ≡ c.parse_amount_str.result → Err e ≡ given_or e o
 refused c (Ok a) e q = absurd (c.in_default-parse_amount_str.not-Ok a (sym q))
-refused c NotWhole e q = refl
-refused c Overflow e q = refl
-refused c Underflow e q = refl
+refused c (Err x) e q = refl
 
 pub returns-in_default : goal.returns-in_default
 unfolding amount_by field
@@ -21,8 +19,8 @@ returns-in_default c = rw (← c.find.ensures, c.in_default.is)
 
 pub returns-in_default-parse_amount_str : goal.returns-in_default-parse_amount_str
 unfolding field
-returns-in_default-parse_amount_str c = rw (← c.find.ensures, c.in-At.is, amount_in_is, ← c.amount_fault.ensures, ← c.parse_amount_str.ensures) (refused (goal.at.returns-in_default-parse_amount_str c).In_default-parse_amount_str _ _ refl)
+returns-in_default-parse_amount_str c = rw (← c.find.ensures, c.in-Some.is, amount_in_is, ← c.amount_fault.ensures, ← c.parse_amount_str.ensures) (refused (goal.at.returns-in_default-parse_amount_str c).In_default-parse_amount_str _ _ refl)
 
 pub returns : goal.returns
 unfolding field
-returns c = rw (← c.find.ensures, c.in-At.is, amount_in_is, ← c.parse_amount_str.ensures, c.in-Ok.is)
+returns c = rw (← c.find.ensures, c.in-Some.is, amount_in_is, ← c.parse_amount_str.ensures, c.in-Ok.is)

@@ -1,10 +1,7 @@
 use mathlib.Core.Path.{◌≡◌}
-use Prim.Native.Nat.{◌≤◌, ◌-◌}
+use Prim.Native.Nat.{◌-◌}
 use Rattle.sheet.specs.Sheet.{lookup, table, entries_from}
 use Rattle.sheet.proofs.find.Given as goal
 
 abbrev pub invariant-loop-k : goal.invariant-loop-k
-invariant-loop-k l = (l.k ≤ l.n) × (lookup l.name (table l.s) ≡ lookup l.name (entries_from l.s l.k (l.n - l.k)))
-
-abbrev pub decreases-loop-k : goal.decreases-loop-k
-decreases-loop-k l = l.n - l.k
+invariant-loop-k l = lookup l.name (table l.s) ≡ lookup l.name (entries_from l.s l.k (l.n - l.k))

@@ -1,9 +1,7 @@
 use Rattle.amount.proofs.Reading.{Numbered}
-use Rattle.std.proofs.Common.{◌-◌, length}
+use Rattle.std.specs.Slice.Iter.{chunks_rest, chunks_size}
+use Rattle.std.proofs.Common.{◌≡◌}
 use Rattle.amount.proofs.Amount.try_from_str.Given as goal
 
-abbrev pub invariant-loop-i : goal.invariant-loop-i
-invariant-loop-i l = Numbered l.text l.mantissa l.i
-
-abbrev pub decreases-loop-i : goal.decreases-loop-i
-decreases-loop-i l = length l.text - l.i
+abbrev pub invariant-loop-part : goal.invariant-loop-part
+invariant-loop-part l = Numbered l.text l.mantissa (chunks_rest l.part-iterator) × (chunks_size l.part-iterator ≡ 9)

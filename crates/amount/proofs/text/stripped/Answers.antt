@@ -10,10 +10,10 @@ pub loop-scale-init : goal.loop-scale-init
 loop-scale-init c = record { same = refl; whole = whole_of _ (omega arith) (omega arith) }
 
 pub returns-then-d-ne0 : goal.returns-then-d-ne0
-returns-then-d-ne0 c = strips_stop c.loop-scale.invariant (omega arith) _ c.divide_by_ten-d.ensures c.if-d-ne0.true
+returns-then-d-ne0 c = strips_stop c.loop-scale.invariant (omega arith) _ c.div_rem-d.ensures c.if-d-ne0.true
 
 pub loop-scale-preserved : goal.loop-scale-preserved
-loop-scale-preserved c = strips_more c.loop-scale.invariant (omega arith) _ c.divide_by_ten-d.ensures c.if-d-ne0.false
+loop-scale-preserved c = strips_more c.loop-scale.invariant (omega arith) _ c.div_rem-d.ensures c.if-d-ne0.false
 
 pub returns : goal.returns
 returns c = strips_end c.loop-scale.invariant (omega arith)

@@ -4,7 +4,6 @@ use Rattle.resource_state.specs.Next.{given, the_sum, the_difference, balance_of
 use Rattle.resource_state.specs.Apply.{holding, raising, lowering, balance_next}
 use Rattle.resource_state.specs.declared.Part.TheVariants.{State, Input}
 use Rattle.resource_state.proofs.Laws.{made_with}
-use borrow.Author.Tests.{ne_eqb}
 use Rattle.resource_state.proofs.holding.apply_balance.Goals as goal
 
 pub returns-in-11 : goal.returns-in-11
@@ -46,7 +45,3 @@ returns-in-19 c = rw c.in-19.is (made_with c.args.state.now c.args.input.now (ho
 pub returns-in-20 : goal.returns-in-20
 unfolding balance_next
 returns-in-20 c = rw c.in-20.is (made_with c.args.state.now c.args.input.now (born ∷ st_text 1 ∷ in_text 9 ∷ lowering 4 7) (the_difference 4 7) (balance_of (State 1) (Input 9)) c.converted.ensures c.balance-in-20.ensures)
-
-pub returns-in_default : goal.returns-in_default
-unfolding balance_next
-returns-in_default c = rw (ne_eqb _ 11 c.in_default.in_default-own.rest.0.0.0.0.0.0.0.0.0.1, ne_eqb _ 12 c.in_default.in_default-own.rest.0.0.0.0.0.0.0.0.1, ne_eqb _ 13 c.in_default.in_default-own.rest.0.0.0.0.0.0.0.1, ne_eqb _ 14 c.in_default.in_default-own.rest.0.0.0.0.0.0.1, ne_eqb _ 15 c.in_default.in_default-own.rest.0.0.0.0.0.1, ne_eqb _ 16 c.in_default.in_default-own.rest.0.0.0.0.1, ne_eqb _ 17 c.in_default.in_default-own.rest.0.0.0.1, ne_eqb _ 18 c.in_default.in_default-own.rest.0.0.1, ne_eqb _ 19 c.in_default.in_default-own.rest.0.1, ne_eqb _ 20 c.in_default.in_default-own.rest.1)

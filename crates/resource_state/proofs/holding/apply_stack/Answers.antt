@@ -4,7 +4,6 @@ use Rattle.resource_state.specs.Next.{zero, given, the_sum, the_difference, stac
 use Rattle.resource_state.specs.Apply.{holding, raising, lowering, stack_next}
 use Rattle.resource_state.specs.declared.Part.TheVariants.{State, Input}
 use Rattle.resource_state.proofs.Laws.{made_with}
-use borrow.Author.Tests.{ne_eqb}
 use Rattle.resource_state.proofs.holding.apply_stack.Goals as goal
 
 pub returns-in-1 : goal.returns-in-1
@@ -42,7 +41,3 @@ returns-in-8 c = rw c.in-8.is (made_with c.args.state.now [] holding zero (stack
 pub returns-in-9 : goal.returns-in-9
 unfolding stack_next
 returns-in-9 c = rw c.in-9.is (made_with c.args.state.now c.args.input.now (holding ++ (in_amount 3 ∷ [])) (given 3) (stack_of (State 1) (State 2)) c.adjusted.ensures c.stack_with-in-9.ensures)
-
-pub returns-in_default : goal.returns-in_default
-unfolding stack_next
-returns-in_default c = rw (ne_eqb _ 1 c.in_default.in_default-own.rest.0.0.0.0.0.0.0.0.1, ne_eqb _ 2 c.in_default.in_default-own.rest.0.0.0.0.0.0.0.1, ne_eqb _ 3 c.in_default.in_default-own.rest.0.0.0.0.0.0.1, ne_eqb _ 4 c.in_default.in_default-own.rest.0.0.0.0.0.1, ne_eqb _ 5 c.in_default.in_default-own.rest.0.0.0.0.1, ne_eqb _ 6 c.in_default.in_default-own.rest.0.0.0.1, ne_eqb _ 7 c.in_default.in_default-own.rest.0.0.1, ne_eqb _ 8 c.in_default.in_default-own.rest.0.1, ne_eqb _ 9 c.in_default.in_default-own.rest.1)

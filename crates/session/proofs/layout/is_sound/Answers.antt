@@ -14,17 +14,17 @@ pub returns-then-n-gt-MAX_ENTRIES : goal.returns-then-n-gt-MAX_ENTRIES
 returns-then-n-gt-MAX_ENTRIES c = sym (too_many _ (omega arith) (omega arith) (omega arith))
 
 pub loop-k-init : goal.loop-k-init
-loop-k-init c = (search rules, search rules, rw c.u16_at-n.ensures (walk_start _))
+loop-k-init c = (search rules, rw c.u16_at-n.ensures (walk_start _))
 
 pub returns-then-not-line_fits : goal.returns-then-not-line_fits
 returns-then-not-line_fits c =
     sym
     (torn_entry _ (omega arith) (omega arith) (omega arith)
-    (walk_torn _ c.line_at-l.result _ _ c.loop-k.invariant.2 c.line_at-l.ensures _ (omega arith) (sym c.line_fits.ensures ∙ c.if-not-line_fits.true)))
+    (walk_torn _ c.line_at-l.result _ _ c.loop-k.invariant.1 c.line_at-l.ensures _ (omega arith) (sym c.line_fits.ensures ∙ c.if-not-line_fits.true)))
 
 pub loop-k-preserved : goal.loop-k-preserved
 loop-k-preserved c =
-    (search rules, search rules, walk_turn _ c.line_at-l.result _ _ c.loop-k.invariant.2 c.line_at-l.ensures (sym c.line_fits.ensures ∙ c.if-not-line_fits.false))
+    (search rules, walk_turn _ c.line_at-l.result _ _ c.loop-k.invariant.1 c.line_at-l.ensures (sym c.line_fits.ensures ∙ c.if-not-line_fits.false))
 
 pub returns : goal.returns
-returns c = sym (walk_end _ (omega arith) (omega arith) (omega arith) _ _ c.loop-k.invariant.2 (omega arith))
+returns c = sym (walk_end _ (omega arith) (omega arith) (omega arith) _ _ c.loop-k.invariant.1 (omega arith))

@@ -1,16 +1,19 @@
-use Rattle.steps.proofs.Texts.{or_none}
+use Rattle.std.proofs.Common.{rules, tests, arith}
 use Rattle.book.specs.Steps.{adds}
-use borrow.Author.Tests.{eq-eqb, ne_eqb}
 use Rattle.steps.proofs.act.is_adding.Goals as goal
 
-pub returns-then-operation-eq-BALANCE_MINT : goal.returns-then-operation-eq-BALANCE_MINT
+pub returns-in-12 : goal.returns-in-12
 unfolding adds
-returns-then-operation-eq-BALANCE_MINT c = rw (eq-eqb _ 12 c.if-operation-eq-BALANCE_MINT.true)
+returns-in-12 c = grind (arith, rules, tests)
 
-pub returns-then-operation-eq-BALANCE_CREDIT : goal.returns-then-operation-eq-BALANCE_CREDIT
+pub returns-in-12-2 : goal.returns-in-12-2
 unfolding adds
-returns-then-operation-eq-BALANCE_CREDIT c = rw (ne_eqb _ 12 c.if-operation-eq-BALANCE_MINT.false, eq-eqb _ 13 c.if-operation-eq-BALANCE_CREDIT.true)
+returns-in-12-2 c = grind (arith, rules, tests)
 
-pub returns : goal.returns
+pub returns-in_default : goal.returns-in_default
 unfolding adds
-returns c = rw (ne_eqb _ 12 c.if-operation-eq-BALANCE_MINT.false, ne_eqb _ 13 c.if-operation-eq-BALANCE_CREDIT.false, or_none)
+returns-in_default c = search (rules, tests)
+
+pub returns-in_default-2 : goal.returns-in_default-2
+unfolding adds
+returns-in_default-2 c = search (rules, tests)

@@ -1,10 +1,6 @@
-use Rattle.steps.proofs.Texts.{Filled}
-use lib.ListN.{length}
-use Prim.Native.Nat.{◌-◌}
+use Rattle.std.proofs.Common.{◌≡◌}
+use lib.Seq.{paste}
 use Rattle.steps.proofs.names.name_of.Given as goal
 
 abbrev pub invariant-loop-i : goal.invariant-loop-i
-invariant-loop-i l = Filled l.text l.bytes l.i
-
-abbrev pub decreases-loop-i : goal.decreases-loop-i
-decreases-loop-i l = length l.text - l.i
+invariant-loop-i l = l.bytes ≡ paste l.initial.bytes 0 l.text l.i

@@ -1,15 +1,15 @@
 use Rattle.book.specs.Steps.{start_answer}
-use borrow.Author.Tests.{eq-eqb, ne_eqb, lt-ltb, le-ltb}
+use Rattle.std.proofs.Common.{lt-ltb, le-ltb}
 use Rattle.steps.proofs.start.start_outcome.Goals as goal
 
-pub returns-then-unit-eq0 : goal.returns-then-unit-eq0
+pub returns-then-is_empty : goal.returns-then-is_empty
 unfolding start_answer
-returns-then-unit-eq0 c = rw (eq-eqb _ 0 c.if-unit-eq0.true)
+returns-then-is_empty c = rw (← c.if-is_empty.ensures)
 
 pub returns-then-unit-gt-NAME_BYTES : goal.returns-then-unit-gt-NAME_BYTES
 unfolding start_answer
-returns-then-unit-gt-NAME_BYTES c = rw (ne_eqb _ 0 c.if-unit-eq0.false, lt-ltb 32 _ c.if-unit-gt-NAME_BYTES.true)
+returns-then-unit-gt-NAME_BYTES c = rw (← c.if-is_empty.ensures, lt-ltb 32 _ c.if-unit-gt-NAME_BYTES.true)
 
 pub returns : goal.returns
 unfolding start_answer
-returns c = rw (ne_eqb _ 0 c.if-unit-eq0.false, le-ltb 32 _ c.if-unit-gt-NAME_BYTES.false)
+returns c = rw (← c.if-is_empty.ensures, le-ltb 32 _ c.if-unit-gt-NAME_BYTES.false)

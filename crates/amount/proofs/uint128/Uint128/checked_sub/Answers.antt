@@ -1,15 +1,12 @@
-use Rattle.amount.proofs.Halves.{difference_number, difference_outside, difference_halves, val_lt_hi, val_lt_lo}
-use Rattle.std.proofs.Common.{arith}
+use Rattle.amount.proofs.Halves.{difference_below, difference_within}
+use Rattle.std.proofs.Common.{◌∙◌, arith}
 use Rattle.amount.proofs.uint128.Uint128.checked_sub.Goals as goal
 
-pub returns-then-self-other : goal.returns-then-self-other
-returns-then-self-other c = difference_outside _ _ (val_lt_hi _ _ (omega arith) (omega arith))
+pub returns-in_err-checked_sub : goal.returns-in_err-checked_sub
+returns-in_err-checked_sub c = c.from_residual.ensures ∙ difference_below _ _ _ _ c.borrowing_sub-lo.ensures (omega arith) (omega (arith, c.in_err-checked_sub.ensures))
 
-pub returns-then-other-self : goal.returns-then-other-self
-returns-then-other-self c = difference_number _ _ _ (omega arith) (difference_halves _ _ _ 0 (omega arith) (omega arith))
-
-pub returns-then-hi-eq0 : goal.returns-then-hi-eq0
-returns-then-hi-eq0 c = difference_outside _ _ (val_lt_lo _ _ (omega arith) (omega arith))
+pub returns-in_err-hi : goal.returns-in_err-hi
+returns-in_err-hi c = c.from_residual-in_err-hi.ensures ∙ difference_below _ _ _ _ c.borrowing_sub-lo.ensures (omega arith) (omega (arith, c.in_err-hi.ensures, c.in_ok-checked_sub.ensures))
 
 pub returns : goal.returns
-returns c = difference_number _ _ _ (omega arith) (difference_halves _ _ _ 1 (omega arith) (omega arith))
+returns c = difference_within _ _ _ _ c.borrowing_sub-lo.ensures _ (omega (arith, c.in_ok-hi.ensures, c.in_ok-checked_sub.ensures)) (omega arith)

@@ -1,9 +1,0 @@
-use Rattle.std.proofs.Common.{◌≡◌, ℕ, length, replicate, sym}
-use lib.ListN.{length-replicate}
-use Rattle.book_cases.proofs.room.Goals as goal
-
-counted : (n byte : ℕ) → n ≡ length (replicate n byte)
-counted n byte = sym (length-replicate n byte)
-
-pub returns : goal.returns
-returns c = counted 1572864 0

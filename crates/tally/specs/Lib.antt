@@ -1,0 +1,3 @@
+-- The definitions that the contracts of `tally` cite.
+pub mod Counts
+pub mod Judging
