@@ -71,6 +71,7 @@ impl Amount {
         scale: 0,
     };
 
+    // The Rust's name for `== ZERO`, which is by value.
     pub fn is_zero(self) -> bool
         ensures { result ≡ (val self.mantissa == 0) }
     {
@@ -245,6 +246,7 @@ fn checked_rescale(mantissa: Uint128, places: u8) -> Option<Uint128>
     ensures { result ≡ checked (val mantissa * 10 ^ places) }
 {
     let mut number = mantissa;
+    // no index: it is done so often
     for _ in 0..places {
         number = mul_add(number, 10, 0)?;
     }

@@ -125,7 +125,7 @@ fn word_width(n: u64) -> usize
 {
     let mut rest = n;
     let mut count: usize = 0;
-    // as in `width`
+    // two `while`s, as in `width`
     while 1_000_000_000 <= rest {
         rest /= 1_000_000_000;
         count += 9;
@@ -164,7 +164,7 @@ fn put_word(out: &mut [u8], at: usize, count: usize, n: u64)
     ensures { (rest : List ℕ) → out.old ≡ zeros at ++ rest → out.new ≡ zeros (at - count) ++ (last_digits count n ++ rest) }
 {
     let mut rest = n;
-    // by index: of what an `iter_mut().rev()` writes a proof knows nothing
+    // by index: a proof knows nothing of what `iter_mut().rev()` writes
     for k in 0..count {
         out[at - k - 1] = b'0' + (rest % 10) as u8;
         rest /= 10;

@@ -189,7 +189,7 @@ fn past_transfer(e: &[u8], r: Transfer) -> Option<&[u8]> {
     past_number(e.strip_prefix(&[r.from, r.to])?, r.amount.mantissa)
 }
 
-// Of the places and transfers, those that are in use.
+// Of the places and transfers, those that are in use: by their bits, not by `audit`, which is judged here.
 fn past_book(e: &[u8], book: Book) -> Option<&[u8]> {
     let mut e = e
         .strip_prefix(&book.opened.to_le_bytes())?

@@ -1,5 +1,5 @@
 // The stack's checks, the port of consumable_stack.rs.
-// A function for each row of document 01, by the Rust's name, where two rows are alike too.
+// A function for each row of document 01, and for each amount of a state, by the Rust's name, where two are alike too.
 ghost use Rattle.std.specs.Prelude.{◌≡◌, not, [], ◌∷◌, eqb, length};
 ghost use Rattle.sheet.specs.Fields.{field, sight_of, quantity, to_subject};
 ghost use Rattle.registry.specs.Readers.{amount_in, amount_of};

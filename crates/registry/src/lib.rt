@@ -1,5 +1,6 @@
 // What rules are made of, the port of registry.rs: the readers of input and state sheets, the tests that profiles share,
 // and which profile an operation is of.
+// State and input are no struct: nothing links the two slices that C gives, and half of the readers take one with a field's name.
 #![tactic(auto)]
 
 ghost use Rattle.std.specs.Prelude.{◌≡◌, not, [], ◌∷◌, eqb, length};
@@ -76,7 +77,8 @@ pub fn require_unborn(state: &[u8]) -> Result<(), ProfileError>
     Err(ProfileError::Born)
 }
 
-// Whether an input holds a text that is not empty. `text` gives it.
+// Whether an input holds a text that is not empty. `text` gives it. The readers take a lookup apart by `let .. else`, the form that
+// document 01 names for them.
 #[tactic(auto, unfolding(crate::specs::Readers::text_in, sheet::specs::Fields::field))]
 pub fn input_str(input: &[u8], name: u8) -> Result<(), ProfileError>
     ensures { result ≡ text_in name (field input.now name) }
@@ -231,7 +233,8 @@ pub fn check_setting(state: &[u8], input: &[u8], name: u8) -> Result<(), Profile
     Ok(())
 }
 
-// The profile that an operation is of; 0, which is no profile's number, for none.
+// The profile that an operation is of, by document 01's ranges; 0 for none, which no caller takes for a profile: `require_operation` has
+// tested that there is one of that number.
 fn profile_of(operation: u8) -> u8
     ensures { result ≡ profile_of operation }
 {

@@ -29,6 +29,7 @@ pub(crate) fn put_listing(out: &mut [u8], run: &Run) -> usize
     page.at
 }
 
+// Each line needs room of its own size, so its premise is no field of the page.
 impl Page<'_> {
     // What step k answered.
     fn put_step(&mut self, k: u16, a: StepAnswer)

@@ -29,7 +29,7 @@ impl Page<'_> {
         }
     }
 
-    // A number in decimal. std's own text of a number asks for `memmove` too, or may fail; `digits[zeros..]` in one put is slower.
+    // A number in decimal. std's own text of a number asks for `memmove` too, or may fail.
     pub(crate) fn put_number(&mut self, n: u16)
         requires room { HasRoom self.old 3 }
         requires three_digits { n < 1000 }

@@ -34,7 +34,7 @@ pub(crate) fn created(input: &[u8], name: u8) -> Result<Amount, ProfileError>
     input_amount(input, name)
 }
 
-// With `debited` one function of a sum or a difference given by a closure would be no shorter than the two.
+// With `debited`, and `raised` with `lowered`: one function over a closure would be no shorter than the two.
 pub(crate) fn credited(
     state: &[u8],
     input: &[u8],

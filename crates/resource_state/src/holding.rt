@@ -1,4 +1,5 @@
-// The next state of stacks and balances. Meters have a module of their own.
+// The next state of stacks and balances. Meters have a module of their own. A match, not a table of functions: it says what the other
+// operations are.
 ghost use Rattle.std.specs.Prelude.{◌≡◌};
 ghost use Rattle.sheet.specs.Fields.{field, sight_of, subject, unit};
 ghost use Rattle.registry.specs.Readers.{amount_in};

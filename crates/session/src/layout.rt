@@ -44,7 +44,7 @@ pub(crate) fn body(s: &[u8], l: Line) -> &[u8]
     sheet::part(s, l.offset as usize, l.len as usize)
 }
 
-// The step of an entry, without its body; another kind is none.
+// The step of an entry, without its body; another kind is none. The kinds are document 01's, as they stand in a session.
 pub(crate) fn step_of(l: Line) -> Option<Step>
     ensures { (i : List ℕ) → entry_step result i ≡ step_of l i }
 {

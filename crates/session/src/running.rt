@@ -68,7 +68,7 @@ fn do_steps(s: &[u8]) -> Run
     let mut book = steps::start_book(unit(s));
     let mut total = Some(Uint128::ZERO);
     let mut answers = [NO_ANSWER; MAX_STEPS];
-    // by index: an entry is read and an answer written by one, and of what an adapter of `iter_mut` writes a proof knows nothing
+    // by index: a proof knows nothing of what an adapter of `iter_mut` writes
     for j in 0..count as usize {
         let l = layout::line_at(s, 1 + j);
         // every later entry of a good session is a step

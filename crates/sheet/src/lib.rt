@@ -119,7 +119,7 @@ pub fn find(s: &[u8], name: u8) -> Option<Entry>
     ensures { result ≡ lookup name (table s.now) }
 {
     let n = byte(s, 0) as usize;
-    // by index: a `Reader` or `chunks` reads entries whole, and the walk looks at names alone
+    // by index: the table may be cut off, and a byte past the end is 0
     for k in 0..n {
         if byte(s, 1 + 6 * k) == name {
             return Some(entry_at(s, k));

@@ -8,7 +8,7 @@ use super::{
     METER_FORM, QUANTITY, STACK_FORM, SUBJECT, Shape, State, byte, entry_at,
 };
 
-// Whether the bytes are a sheet of this shape.
+// Whether the bytes are a sheet of this shape. A match: what differs is which constant form is tested.
 #[tactic(auto, unfolding(crate::specs::Sheet::sound_as))]
 pub fn is_sound(s: &[u8], shape: Shape) -> bool
     ensures { result ≡ sound_as shape s.now }

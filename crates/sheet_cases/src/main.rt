@@ -1,5 +1,6 @@
 // Reads cases from standard input and prints a line for each: what `sheet` makes of a sheet, or what a writer leaves in a
 // buffer. The cases and the lines expected are made by tools/sheet_cases.py, which knows nothing of this code.
+// What prints takes the output with what it prints, as std's do; tags are the cases' own bytes.
 // A case is a tag, a length of three bytes and as many bytes. Tag 0 is a sheet; 1, 2 and 3 write a stack, a balance and a
 // meter.
 #![tactic(auto)]

@@ -36,7 +36,7 @@ pub(crate) fn act(
         return Err(BookError::Profile(ProfileError::UnknownOperation));
     }
     require_authorized(operation, sheet)?;
-    // a match: std's `branch` of an amount costs 45 instructions of a step
+    // a match: with `?` std's `branch` is called, 45 instructions of each step
     let asked = match registry::input_amount(sheet, AMOUNT) {
         Ok(a) => a,
         Err(e) => return Err(BookError::Profile(e)),
@@ -44,6 +44,7 @@ pub(crate) fn act(
     registry::require_positive(asked)?;
     let amount = asked.mantissa;
     if is_adding(operation) {
+        // std's `ok_or` would be called, 57 instructions
         let Some(sum) = total.checked_add(amount) else {
             return Err(BookError::TooMuch);
         };

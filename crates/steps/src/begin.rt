@@ -39,7 +39,7 @@ pub(crate) fn begin(
     if was.named == 0 {
         return Err(BookError::Profile(ProfileError::Empty(TO_SUBJECT)));
     }
-    // a match: std's `branch` of an amount costs 45 instructions of a step
+    // a match, as in `act`
     let asked = match registry::input_amount(sheet, AMOUNT) {
         Ok(a) => a,
         Err(e) => return Err(BookError::Profile(e)),

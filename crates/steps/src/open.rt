@@ -40,6 +40,7 @@ pub(crate) fn open(
     if NAME_BYTES < registry::text(sheet, SUBJECT).len() {
         return Err(BookError::LongName(SUBJECT));
     }
+    // as in `act`
     let Some(sum) = total.checked_add(balance.mantissa) else {
         return Err(BookError::TooMuch);
     };

@@ -24,7 +24,7 @@ pub enum Step {
 }
 
 // What a step looks at and may alter, in words: what one place holds, one transfer's ends and amount, the two sets, and the total, which a
-// book that fails test 28 has not. Names are not here: the unit is passed beside it, `named` is how long the destination's subject is, and
+// book that fails test 28 has not. Names are not here: the unit is passed beside it, `named` is how long the destination's subject is, always, and
 // only an open writes one.
 #[derive(Clone, Copy)]
 pub struct View {

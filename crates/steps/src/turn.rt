@@ -8,7 +8,8 @@ use crate::{act, begin, land, open};
 use book::Name;
 use book::error::BookError;
 
-// THE TURN, of any book: 28 first. What an accepted step leaves, or why it is refused; a refused one leaves all as it was.
+// THE TURN, of any book: 28 first. What an accepted step leaves, or why it is refused; a refused one leaves all as it was. A match, not a
+// table of functions: each kind takes what it needs of the step. The sheet is no part of the view: C lends it.
 pub fn take_turn(step: Step, was: View, unit: Name, sheet: &[u8]) -> Result<View, BookError>
     ensures { (b : Book) → Shows b step was → unit ≡ b.unit → Turned b step sheet.now result }
 {

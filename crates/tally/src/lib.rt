@@ -87,6 +87,7 @@ pub fn judge_all<J: Judge>(out: &mut impl Write, list: &[u8], judge: &mut J) -> 
     ensures { IfOk result (λ n. (rest : List ℕ) × Leads J.follows list.now rest × J.ends rest × (n ≡ length rest)) }
 {
     let mut rest = list;
+    // a `while let`: where the next case starts the judge says
     while let Some((equal, behind)) = judge.judge(rest) {
         if !equal {
             let at = list.len() - rest.len();

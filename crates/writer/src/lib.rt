@@ -70,7 +70,7 @@ fn head(form: Form, x: usize, second: usize, y: usize, third: usize, z: usize) -
     ]
 }
 
-// Copies src into out from `at` on. std's `copy_from_slice` would ask the C library for `memmove`, and is slower.
+// Copies src into out from `at` on. std's `copy_from_slice` would ask the C library for `memmove`.
 #[tactic(auto, using(std::proofs::lemmas::List::Edits::paste_more, std::proofs::lemmas::List::Edits::paste_all))]
 fn copy_at(out: &mut [u8], at: usize, src: &[u8])
     requires { at + length src.now ≤ length out.old }
