@@ -98,7 +98,7 @@ module _ (b : Book) (f : Formed b) where
   unfolding balances
   held_part p low here = rw (place_raw b p here).1 at (sum_part (λ q. stock_of (place_at b q)) 16 p low)
 
-  pub carried_part : (t : ℕ) → t < 8 → is_some (transfer_at b t) ≡ true → credits (transfer_record b t).amount ≤ credits_under_way b
+  carried_part : (t : ℕ) → t < 8 → is_some (transfer_at b t) ≡ true → credits (transfer_record b t).amount ≤ credits_under_way b
   unfolding credits_under_way
   carried_part t low moving = rw (transfer_raw b t moving).1 at (sum_part (λ q. carried_by (transfer_at b q)) 8 t low)
 
@@ -182,12 +182,19 @@ begin_takes b f g t i h =
     (rw ((place_raw b f here_f).1, (place_raw b g here_g).1) at k.check) in
     less_asked (place_record b f).balance i (w.whole_places f k.low_from).balance (omega (arith, w.fits, held_part b w f k.low_from here_f)) (a.within refl)
 
--- finish and cancel, where a transfer's credits land: no overflow. `opened` is a 16-bit number
+-- finish and cancel: where the transfer's credits land there is room for them. `opened` is a 16-bit number
+pub end_fits : (b : Book) (t : ℕ) (back : Bool) → b.opened < 2 ^ 16 → Ended b t back
+    → (end b t back < 16) × (held_at b (end b t back) + credits (transfer_record b t).amount < limit)
+unfolding seen total
+end_fits b t back few e =
+    let low : end b t back < 16 = open_lt b few (end b t back) (e.here back) in
+    (low, omega (arith, e.form.fits, held_part b e.form (end b t back) low (e.here back), carried_part b e.form t e.facts.low e.facts.moving))
+
+-- so no overflow
 pub end_adds : (b : Book) (t : ℕ) (back : Bool) → b.opened < 2 ^ 16 → answer b (ending t back) ≡ Ok tt
     → sum_of (place_record b (end b t back)).balance (transfer_record b t).amount ≡ Ok (whole_amount (held_at b (end b t back) + credits (transfer_record b t).amount))
-unfolding seen total
 end_adds b t back few h =
     let e : Ended b t back = ended b t back h in
-    let low : end b t back < 16 = open_lt b few (end b t back) (e.here back) in
-    sum_whole (place_record b (end b t back)).balance (transfer_record b t).amount (e.form.whole_places (end b t back) low).balance (e.form.whole_transfers t e.facts.low)
-    (omega (arith, e.form.fits, held_part b e.form (end b t back) low (e.here back), carried_part b e.form t e.facts.low e.facts.moving))
+    let room = end_fits b t back few e in
+    sum_whole (place_record b (end b t back)).balance (transfer_record b t).amount (e.form.whole_places (end b t back) room.0).balance
+    (e.form.whole_transfers t e.facts.low) room.1

@@ -31,7 +31,7 @@ module _ (b : Book) (t : ℕ) where
   tested true h = accepted_tests b (Cancel t) h
   tested false h = accepted_tests b (Finish t) h
 
-  lands : (back : Bool) → effect b (ending t back) ≡ landed b t (end back)
+  pub lands : (back : Bool) → effect b (ending t back) ≡ landed b t (end back)
   lands true = refl
   lands false = refl
 

@@ -14,14 +14,15 @@ use Rattle.amount.proofs.Halves.{wrapped_sum}
 use Rattle.registry.specs.Refusals.{zero_amount}
 use Rattle.sheet.specs.Fields.{subject, balance, amount}
 use Rattle.book.specs.Sets.{with_bit}
-use Rattle.book.specs.Book.{place_record, transfer_record, place_at, is_some, credits, total, is_well_formed, blank_transfer, open_place, set_record, set_transfer}
+use Rattle.book.specs.Book.{place_record, transfer_record, credits, total, is_well_formed, blank_transfer, open_place, set_record, set_transfer}
 use Rattle.book.specs.Steps.{Open, Act, Begin, credits_in, bytes_in, adds, doing, changed, refused_if, after_check, Seen, seen, tests_of, tests_finish, answer, landed, effect, held_at, flow, Neither, issues, takes}
 use Rattle.book.specs.declared.Book.{Book}
 use Rattle.book.specs.declared.error.BookError.TheVariants.{TooMuch}
-use Rattle.book.proofs.Facts.{Finishes, finishes, acts_so, begins, Opens, opens, accepted_tests}
-use Rattle.book.proofs.Formed.{Formed, formed}
-use Rattle.book.proofs.Views.{transfer_raw, home, home_open, open_lt}
-use Rattle.book.proofs.Effects.{held_part, carried_part}
+use Rattle.book.proofs.Facts.{acts_so, begins, Opens, opens, accepted_tests}
+use Rattle.book.proofs.Formed.{formed}
+use Rattle.book.proofs.Views.{home}
+use Rattle.book.proofs.Endings.{ending as book_ending, end, Ended, ended, lands}
+use Rattle.book.proofs.Effects.{held_part, end_fits}
 use Rattle.steps.specs.Turn.{with_sheet, ending, short_name, Shows, stored_at, stored}
 use Rattle.steps.specs.declared.step.Step.TheVariants as Code
 use Rattle.steps.specs.declared.step.View.{View}
@@ -50,8 +51,13 @@ moving x h c f g k =
 
 -- ---- finish and cancel
 
--- what they share: the tests, that they issue and take nothing, and, with the end where the credits land, what they look at, store and do
+-- they are the book's ends, and what they share: the tests, that they issue and take nothing, and, with the end where the credits land, what
+-- they look at and store
 module _ (t : ℕ) (i : List ℕ) where
+  ending_is : (back : Bool) → with_sheet (ending t back) i ≡ book_ending t back
+  ending_is true = refl
+  ending_is false = refl
+
   pub ending_tests : (back : Bool) (s : Seen) → tests_of s (with_sheet (ending t back) i) ≡ tests_finish s t
   ending_tests true s = refl
   ending_tests false s = refl
@@ -70,50 +76,30 @@ module _ (t : ℕ) (i : List ℕ) where
   ending_stored true b y = refl
   ending_stored false b y = refl
 
-  ending_lands : (back : Bool) (b : Book) → effect b (with_sheet (ending t back) i) ≡ landed b t (home back (transfer_record b t))
-  ending_lands true b = refl
-  ending_lands false b = refl
-
 module _ (b : Book) (t : ℕ) (i : List ℕ) (back : Bool) (h : answer b (with_sheet (ending t back) i) ≡ Ok tt) (w : b.opened < 2 ^ 16) where
-  formed_28 : is_well_formed b ≡ true
-  formed_28 = (accepted_tests b (with_sheet (ending t back) i) h).0
+  told : Ended b t back
+  told = ended b t back (rw (← ending_is t i back) h)
 
-  facts : Finishes (seen b) t
-  facts = finishes (seen b) t (rw (← ending_tests t i back (seen b)) (accepted_tests b (with_sheet (ending t back) i) h).1)
-
-  -- where the credits land
-  abbrev end : ℕ
-  end = home back (transfer_record b t)
-
-  end_here : is_some (place_at b end) ≡ true
-  unfolding seen
-  end_here = home_open b (transfer_record b t) back (rw (transfer_raw b t facts.moving).1 at ((formed b formed_28).transfers t facts.low))
-
-  end_low : end < 16
-  end_low = open_lt b w end end_here
-
-  fits : held_at b end + credits (transfer_record b t).amount < limit
-  unfolding seen total
-  fits =
-      let f : Formed b = formed b formed_28 in
-      omega (arith, f.fits, held_part b f end end_low end_here, carried_part b f t facts.low facts.moving)
+  room : (end b t back < 16) × (held_at b (end b t back) + credits (transfer_record b t).amount < limit)
+  room = end_fits b t back w told
 
   pub stored_end : (x : View) (m : Uint128) (n : ℕ) → Shows b (ending t back) x
       → m ≡ halves ((val x.held + val x.carried) % limit) → n ≡ with_bit x.pending (t % 8) 0
       → stored b (ending t back) i (Ok (moving x m zero_amount.mantissa 0 0 n)) ≡ effect b (with_sheet (ending t back) i)
   unfolding set_transfer set_record blank_transfer
   stored_end x m n v e k =
-      let same : t % 8 ≡ t = mod-eq_of_lt facts.low in
-      let there : end % 16 ≡ end = mod-eq_of_lt end_low in
+      let g : ℕ = end b t back in
+      let same : t % 8 ≡ t = mod-eq_of_lt told.facts.low in
+      let there : g % 16 ≡ g = mod-eq_of_lt room.0 in
       let looks = ending_looks t i back v in
-      let held : val x.held ≡ held_at b end = ap val looks.0 ∙ rw (same, there) in
+      let held : val x.held ≡ held_at b g = ap val looks.0 ∙ rw (same, there) in
       let carried : val x.carried ≡ credits (transfer_record b t).amount = ap val looks.1 ∙ rw same in
-      let sum : m ≡ halves (held_at b end + credits (transfer_record b t).amount) = wrapped_sum _ _ (e ∙ rw (held, carried)) fits in
+      let sum : m ≡ halves (held_at b g + credits (transfer_record b t).amount) = wrapped_sum _ _ (e ∙ rw (held, carried)) room.1 in
       let y : View = moving x m zero_amount.mantissa 0 0 n in
-      let stores : stored_at b end t (place_record b end).subject y ≡ landed b t end =
-      stored_whole b end t _ y formed_28 end_low facts.low ∙ rw (sum, k, v.opened, v.pending, same) in
-      ending_stored t i back b y ∙ (let z : stored_at b (home back (transfer_record b (t % 8)) % 16) (t % 8) (place_record b (home back (transfer_record b (t % 8)) % 16)).subject y ≡ landed b t end = rw (same, there) stores in z)
-      ∙ sym (ending_lands t i back b)
+      let stores : stored_at b g t (place_record b g).subject y ≡ landed b t g =
+      stored_whole b g t _ y (accepted_tests b (with_sheet (ending t back) i) h).0 room.0 told.facts.low ∙ rw (sum, k, v.opened, v.pending, same) in
+      ending_stored t i back b y ∙ (let z : stored_at b (home back (transfer_record b (t % 8)) % 16) (t % 8) (place_record b (home back (transfer_record b (t % 8)) % 16)).subject y ≡ landed b t g = rw (same, there) stores in z)
+      ∙ sym (ap (effect b) (ending_is t i back) ∙ lands b t back)
 
 -- ---- act
 
