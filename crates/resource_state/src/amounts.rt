@@ -68,10 +68,7 @@ pub(crate) fn transferred(
 ) -> Result<Amount, ProfileError>
     ensures { result ≡ amount_over state.now input.now (born ∷ in_text to_subject ∷ st_text subject ∷ st_text unit ∷ lowering held asked) (the_difference held asked) }
 {
-    require_current(state)?;
-    input_str(input, TO_SUBJECT)?;
-    state_str(state, SUBJECT)?;
-    state_str(state, UNIT)?;
+    require_ends(state, input)?;
     lowered(state, input, held, asked)
 }
 
@@ -106,6 +103,17 @@ fn require_texts(state: &[u8]) -> Result<(), ProfileError>
     ensures { result ≡ first_of state.now [] holding }
 {
     require_current(state)?;
+    state_str(state, SUBJECT)?;
+    state_str(state, UNIT)
+}
+
+// The texts of a transfer. Not inlined, so that its refusals are copied apart from the stack of `lowered`.
+#[inline(never)]
+fn require_ends(state: &[u8], input: &[u8]) -> Result<(), ProfileError>
+    ensures { result ≡ first_of state.now input.now (born ∷ in_text to_subject ∷ st_text subject ∷ st_text unit ∷ []) }
+{
+    require_current(state)?;
+    input_str(input, TO_SUBJECT)?;
     state_str(state, SUBJECT)?;
     state_str(state, UNIT)
 }

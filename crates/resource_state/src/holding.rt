@@ -1,6 +1,6 @@
 // The next state of stacks and balances. Meters have a module of their own. A match, not a table of functions: it says what the other
 // operations are.
-ghost use Rattle.std.specs.Prelude.{◌≡◌};
+ghost use Rattle.std.specs.Prelude.{◌≡◌, ◌||◌, eqb, false};
 ghost use Rattle.sheet.specs.Fields.{field, sight_of, subject, unit};
 ghost use Rattle.registry.specs.Readers.{amount_in};
 ghost use Rattle.resource_state.specs.Next.{stack_of, balance_of, with_amount};
@@ -46,21 +46,35 @@ pub fn balance(
 pub fn apply_stack(operation: u8, state: &[u8], input: &[u8]) -> Result<ResourceState, ProfileError>
     ensures { result ≡ stack_next amount_in (sight_of state.now) (field input.now) operation }
 {
-    let op = operation;
-    match op {
+    match operation {
         op::STACK_CREATE => stack(
             Part::Input(SUBJECT),
             Part::Input(UNIT),
             created(input, QUANTITY),
         ),
-        op::STACK_CREDIT => stack_with(credited(state, input, QUANTITY, QUANTITY)),
-        op::STACK_DEBIT => stack_with(debited(state, input, QUANTITY, QUANTITY)),
-        op::STACK_CONSUME => stack_with(debited(state, input, QUANTITY, QUANTITY)),
-        op::STACK_TRANSFER => stack_with(transferred(state, input, QUANTITY, QUANTITY)),
-        op::STACK_RESERVE => stack_with(debited(state, input, QUANTITY, QUANTITY)),
-        op::STACK_RELEASE => stack_with(credited(state, input, QUANTITY, QUANTITY)),
-        op::STACK_EXPIRE => stack_with(expired(state)),
-        op::STACK_ADJUST => stack_with(adjusted(state, input, QUANTITY)),
+        _ => stack(
+            Part::State(SUBJECT),
+            Part::State(UNIT),
+            next_quantity(operation, state, input),
+        ),
+    }
+}
+
+// Of a stack that keeps its texts: every operation but create.
+#[tactic(auto, unfolding(crate::specs::Apply::stack_next))]
+fn next_quantity(operation: u8, state: &[u8], input: &[u8]) -> Result<Amount, ProfileError>
+    ensures { eqb operation 1 ≡ false
+        → with_amount result (stack_of (Part.State subject) (Part.State unit)) ≡ stack_next amount_in (sight_of state.now) (field input.now) operation }
+{
+    match operation {
+        op::STACK_CREDIT => credited(state, input, QUANTITY, QUANTITY),
+        op::STACK_DEBIT => debited(state, input, QUANTITY, QUANTITY),
+        op::STACK_CONSUME => debited(state, input, QUANTITY, QUANTITY),
+        op::STACK_TRANSFER => transferred(state, input, QUANTITY, QUANTITY),
+        op::STACK_RESERVE => debited(state, input, QUANTITY, QUANTITY),
+        op::STACK_RELEASE => credited(state, input, QUANTITY, QUANTITY),
+        op::STACK_EXPIRE => expired(state),
+        op::STACK_ADJUST => adjusted(state, input, QUANTITY),
         _ => Err(ProfileError::UnknownOperation),
     }
 }
@@ -73,39 +87,40 @@ pub fn apply_balance(
 ) -> Result<ResourceState, ProfileError>
     ensures { result ≡ balance_next amount_in (sight_of state.now) (field input.now) operation }
 {
-    let op = operation;
-    match op {
+    match operation {
         op::BALANCE_CREATE => balance(
             Part::Input(SUBJECT),
             Part::Input(UNIT),
             created(input, BALANCE),
         ),
-        op::BALANCE_MINT => balance_with(credited(state, input, BALANCE, AMOUNT)),
-        op::BALANCE_CREDIT => balance_with(credited(state, input, BALANCE, AMOUNT)),
-        op::BALANCE_DEBIT => balance_with(debited(state, input, BALANCE, AMOUNT)),
-        op::BALANCE_TRANSFER => balance_with(transferred(state, input, BALANCE, AMOUNT)),
-        op::BALANCE_RESERVE => balance_with(debited(state, input, BALANCE, AMOUNT)),
-        op::BALANCE_RELEASE => balance_with(credited(state, input, BALANCE, AMOUNT)),
-        op::BALANCE_SPEND => balance_with(debited(state, input, BALANCE, AMOUNT)),
-        op::BALANCE_BURN => balance_with(debited(state, input, BALANCE, AMOUNT)),
         op::BALANCE_CONVERT => balance(
             Part::State(SUBJECT),
             Part::Input(TO_UNIT),
             converted(state, input),
         ),
-        _ => Err(ProfileError::UnknownOperation),
+        _ => balance(
+            Part::State(SUBJECT),
+            Part::State(UNIT),
+            next_balance(operation, state, input),
+        ),
     }
 }
 
-// The state with another amount.
-fn stack_with(quantity: Result<Amount, ProfileError>) -> Result<ResourceState, ProfileError>
-    ensures { result ≡ with_amount quantity (stack_of (Part.State subject) (Part.State unit)) }
+// Of a balance that keeps its texts: every operation but create and convert.
+#[tactic(auto, unfolding(crate::specs::Apply::balance_next))]
+fn next_balance(operation: u8, state: &[u8], input: &[u8]) -> Result<Amount, ProfileError>
+    ensures { eqb operation 11 || eqb operation 20 ≡ false
+        → with_amount result (balance_of (Part.State subject) (Part.State unit)) ≡ balance_next amount_in (sight_of state.now) (field input.now) operation }
 {
-    stack(Part::State(SUBJECT), Part::State(UNIT), quantity)
-}
-
-fn balance_with(amount: Result<Amount, ProfileError>) -> Result<ResourceState, ProfileError>
-    ensures { result ≡ with_amount amount (balance_of (Part.State subject) (Part.State unit)) }
-{
-    balance(Part::State(SUBJECT), Part::State(UNIT), amount)
+    match operation {
+        op::BALANCE_MINT => credited(state, input, BALANCE, AMOUNT),
+        op::BALANCE_CREDIT => credited(state, input, BALANCE, AMOUNT),
+        op::BALANCE_DEBIT => debited(state, input, BALANCE, AMOUNT),
+        op::BALANCE_TRANSFER => transferred(state, input, BALANCE, AMOUNT),
+        op::BALANCE_RESERVE => debited(state, input, BALANCE, AMOUNT),
+        op::BALANCE_RELEASE => credited(state, input, BALANCE, AMOUNT),
+        op::BALANCE_SPEND => debited(state, input, BALANCE, AMOUNT),
+        op::BALANCE_BURN => debited(state, input, BALANCE, AMOUNT),
+        _ => Err(ProfileError::UnknownOperation),
+    }
 }

@@ -19,14 +19,16 @@ use Rattle.registry.specs.Tests.{◌then◌}
 use Rattle.registry.specs.Refusals.{Outcome}
 use Rattle.registry.specs.Readers.{bytes_of}
 use Rattle.registry.proofs.Readers.{no_bytes}
-use Rattle.resource_state.specs.Next.{text_from, sheet_of}
+use Rattle.resource_state.specs.Next.{text_from, sheet_of, unless_refused, Next}
+use Rattle.resource_state.specs.Apply.{next_of}
+use Rattle.transition.specs.Credit.{credit_of}
 use Rattle.std.specs.Option.{ForSome}
 use Rattle.transition.specs.Helpers.{ShortTexts}
 use Rattle.sheet.specs.declared.Entry.{Entry}
 use Rattle.resource_state.specs.declared.Part.{Part}
 use Rattle.resource_state.specs.declared.ResourceState.{ResourceState}
 use Rattle.resource_state.specs.declared.ResourceState.TheVariants.{ConsumableStack, FungibleBalance, MeteredResource}
-use Rattle.std.specs.Prelude.{Ok, Err, None, Option, Some}
+use Rattle.std.specs.Prelude.{IfOk, Ok, Err, None, Option, Some}
 
 -- one field
 kind_short : (t : Bool) (kind : ℕ) (body : List ℕ) → eqb kind 1 ≡ t → length_fits kind (length body) ≡ true → length (bytes_of (field_of_kind kind body)) ≤ 256
@@ -87,6 +89,25 @@ call_is_short profile op s i h =
     let t = then_told (state_sound 1 (state_of s)) (input_sound (sound_as Input i) then operation_of profile op) h in
     let u = then_told (input_sound (sound_as Input i)) (operation_of profile op) t.1 in
     (state_is_short s 1 t.0, input_is_short i u.0)
+
+-- so of both sheets where a next state is made
+short_where : {P : Type 0} (o : Outcome) (n : Next) → (Ok tt ≡ o → P) → IfOk (unless_refused o n) (λ _. P)
+short_where (Ok _) (Ok x) f = f refl
+short_where (Ok _) (Err e) f = tt
+short_where (Err e) n f = tt
+
+pub next_is_short : (profile op : ℕ) (s i : List ℕ) → IfOk (next_of profile op s i) (λ _. ShortTexts s × ShortTexts i)
+unfolding next_of
+next_is_short profile op s i = short_where (called profile op s i) _ (call_is_short profile op s i)
+
+pub credit_is_short : (op : ℕ) (s d i : List ℕ) → IfOk (credit_of op s d i) (λ _. ShortTexts s × ShortTexts i)
+unfolding credit_of
+credit_is_short op s d i =
+    short_where (state_sound 1 (state_of s) then state_sound 2 (state_of d) then input_sound (sound_as Input i)) _
+    (λ h.
+    let t = then_told (state_sound 1 (state_of s)) (state_sound 2 (state_of d) then input_sound (sound_as Input i)) h in
+    let u = then_told (state_sound 2 (state_of d)) (input_sound (sound_as Input i)) t.1 in
+    (state_is_short s 1 t.0, input_is_short i u.1))
 
 -- the sheet of a next state, and the length that is answered
 text_short : (s i : List ℕ) → ShortTexts s → ShortTexts i → (p : Part) → length (text_from (field s) (field i) p) ≤ 256

@@ -2,14 +2,14 @@
 // state, `credit` the far end of a transfer. Both take any bytes; a refusal leaves the buffer as it was.
 #![tactic(auto)]
 
-ghost use Rattle.std.specs.Prelude.{◌≡◌, ◌<◌};
+ghost use Rattle.std.specs.Prelude.{◌≡◌, ◌<◌, IfOk};
 ghost use Rattle.std.specs.Option.{ForSome};
 ghost use Rattle.sheet.specs.Fields.{field, sight_of};
 ghost use Rattle.resource_state.specs.Next.{text_from};
 ghost use Rattle.resource_state.specs.Apply.{next_by, next_of};
 ghost use Rattle.transition.specs.Credit.{credit_of};
 ghost use Rattle.transition.specs.Written.{written_of, put_of, state_answer, state_buffer, answer_to, buffer_after};
-ghost use Rattle.transition.specs.Helpers.{answered, ShortTexts};
+ghost use Rattle.transition.specs.Helpers.{ShortTexts};
 
 mod transfer;
 
@@ -30,7 +30,7 @@ pub fn apply<'a>(
     ensures { (result ≡ answer_to (next_of profile operation state.now input.now) state.now input.now out.old)
         × (out.new ≡ buffer_after (next_of profile operation state.now input.now) state.now input.now out.old) }
 {
-    answered(try_apply(profile, operation, state, input, out))
+    written(next_of(profile, operation, state, input), state, input, out)
 }
 
 // Refusal 1 of the source, 1 of the destination, 2, 19: no transfer, those of the reads and the sum, then 20: the buffer is too short.
@@ -44,49 +44,40 @@ pub fn credit<'a>(
     ensures { (result ≡ answer_to (credit_of operation source.now destination.now input.now) source.now input.now out.old)
         × (out.new ≡ buffer_after (credit_of operation source.now destination.now input.now) source.now input.now out.old) }
 {
-    answered(try_credit(operation, source, destination, input, out))
+    written(
+        credit_of(operation, source, destination, input),
+        source,
+        input,
+        out,
+    )
 }
 
-// The length that was written, as an answer.
-fn answered(written: Result<u16, ProfileError>) -> Answer
-    ensures { result ≡ answered written }
-{
-    match written {
-        Ok(length) => accepted(length),
-        Err(e) => Answer::from(e),
-    }
-}
-
-fn try_apply<'a>(
+#[tactic(auto, unfolding(resource_state::specs::Apply::next_of))]
+fn next_of(
     profile: u8,
     operation: u8,
-    state: &'a [u8],
-    input: &'a [u8],
-    out: &mut [u8],
-) -> Result<u16, ProfileError>
-    ensures { (answered result ≡ answer_to (next_of profile operation state.now input.now) state.now input.now out.old)
-        × (out.new ≡ buffer_after (next_of profile operation state.now input.now) state.now input.now out.old) }
+    state: &[u8],
+    input: &[u8],
+) -> Result<ResourceState, ProfileError>
+    ensures { result ≡ next_of profile operation state.now input.now }
 {
     registry::require_call(profile, operation, state, input)?;
-    let next = next_state(profile, operation, state, input)?;
-    put(next, state, input, out)
+    next_state(profile, operation, state, input)
 }
 
-fn try_credit<'a>(
+#[tactic(auto, unfolding(crate::specs::Credit::credit_of))]
+fn credit_of(
     operation: u8,
-    source: &'a [u8],
+    source: &[u8],
     destination: &[u8],
-    input: &'a [u8],
-    out: &mut [u8],
-) -> Result<u16, ProfileError>
-    ensures { (answered result ≡ answer_to (credit_of operation source.now destination.now input.now) source.now input.now out.old)
-        × (out.new ≡ buffer_after (credit_of operation source.now destination.now input.now) source.now input.now out.old) }
+    input: &[u8],
+) -> Result<ResourceState, ProfileError>
+    ensures { result ≡ credit_of operation source.now destination.now input.now }
 {
     registry::require_sound_state(source, 1)?;
     registry::require_sound_state(destination, 2)?;
     registry::require_sound_input(input)?;
-    let next = transfer::transfer_after_state(operation, source, destination, input)?;
-    put(next, source, input, out)
+    transfer::transfer_after_state(operation, source, destination, input)
 }
 
 fn next_state(
@@ -104,15 +95,27 @@ fn next_state(
     }
 }
 
-// Writes a next state whose texts stand in these two sheets.
-fn put<'a>(
-    next: ResourceState,
+// The answer to a next state whose texts stand in these two sheets, which is written where it fits.
+#[tactic(auto, unfolding(crate::specs::Written::answer_to, crate::specs::Written::buffer_after))]
+fn written<'a>(
+    next: Result<ResourceState, ProfileError>,
     state: &'a [u8],
     input: &'a [u8],
     out: &mut [u8],
-) -> Result<u16, ProfileError>
+) -> Answer
+    requires { IfOk next (λ _. ShortTexts state.now × ShortTexts input.now) }
+    ensures { (result ≡ answer_to next state.now input.now out.old)
+        × (out.new ≡ buffer_after next state.now input.now out.old) }
+{
+    match next {
+        Ok(next) => put(next, state, input, out),
+        Err(e) => Answer::from(e),
+    }
+}
+
+fn put<'a>(next: ResourceState, state: &'a [u8], input: &'a [u8], out: &mut [u8]) -> Answer
     requires { ShortTexts state.now × ShortTexts input.now }
-    ensures { (answered result ≡ state_answer next state.now input.now out.old)
+    ensures { (result ≡ state_answer next state.now input.now out.old)
         × (out.new ≡ state_buffer next state.now input.now out.old) }
 {
     match next {
@@ -144,12 +147,14 @@ fn part_text<'a>(part: Part, state: &'a [u8], input: &'a [u8]) -> &'a [u8]
 }
 
 // Refusal 20: what was to be written does not fit.
-fn fitted(written: Option<usize>) -> Result<u16, ProfileError>
+fn fitted(written: Option<usize>) -> Answer
     requires { ForSome written (λ n. n < 65536) }
-    ensures { answered result ≡ put_of written }
+    ensures { result ≡ put_of written }
 {
-    let n = written.ok_or(ProfileError::Narrow)?;
-    Ok(n as u16)
+    match written {
+        Some(n) => accepted(n as u16),
+        None => Answer::from(ProfileError::Narrow),
+    }
 }
 
 fn accepted(length: u16) -> Answer
