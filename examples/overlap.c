@@ -1,6 +1,7 @@
 /* A gateway's book: three places, transfers that overlap both ways, refused steps among them, the transfers finished in
- * reverse, and one that is cancelled. After each step it prints the answer, the balances, what is under way and the total.
- * Then it hands over what no sender should send, and shows the copy to make where a sheet stands in the book's own memory. */
+ * reverse, one that is cancelled, and a place that is closed and serves another node. After each step it prints the answer, the
+ * balances, what is under way and the total. Then it hands over what no sender should send, and shows the copy to make where a
+ * sheet stands in the book's own memory. */
 #include <credits.h>
 #include <credits_sheet.h>
 #include <stdio.h>
@@ -138,6 +139,13 @@ int main(void)
     print_step("begin 0: N1 to GW, 4", begin(&book, N1, GW, 0, asking(4)), &book); /* the wrong node was picked */
     print_step("cancel 0", credits_book_cancel(&book, 0), &book); /* back at N1 */
     print_step("cancel 0 again", credits_book_cancel(&book, 0), &book);
+
+    print_step("close 1", credits_book_close(&book, N2), &book); /* N2 leaves, and its credits go to the gateway first */
+    print_step("begin 0: N2 to GW, 4", begin(&book, N2, GW, 0, asking(4)), &book);
+    print_step("close 1", credits_book_close(&book, N2), &book); /* a cancel would put them back there */
+    print_step("finish 0", credits_book_finish(&book, 0), &book);
+    print_step("close 1", credits_book_close(&book, N2), &book);
+    print_step("open 1: N3 with 2", open_place(&book, N2, opening("N3", 2)), &book);
 
     uint8_t noise[64];
     for (unsigned i = 0; i < sizeof noise; i++)

@@ -23,11 +23,11 @@
  * Stack. The deepest that was measured below each call on x86-64, in bytes, without the result's own memory. It is measured
  * on many inputs and not proved; docs/PERFORMANCE.md says how, and has estimates for a Cortex-M0.
  *
- *   credits_amount_read      128    credits_credit         1248    credits_book_finish       960
- *   credits_amount_compare    56    credits_book_start      552    credits_book_cancel       960
- *   credits_amount_add       112    credits_book_open      1200    credits_session_run      6768
- *   credits_amount_sub       112    credits_book_act       1200    credits_session_listing  8624
- *   credits_amount_text      968    credits_book_begin     1200
+ *   credits_amount_read      128    credits_credit         1248    credits_book_finish      1000
+ *   credits_amount_compare    56    credits_book_start      552    credits_book_cancel      1000
+ *   credits_amount_add       112    credits_book_open      1216    credits_book_close       1000
+ *   credits_amount_sub       112    credits_book_act       1216    credits_session_run      6784
+ *   credits_amount_text      968    credits_book_begin     1216    credits_session_listing  8640
  *   credits_check           1312
  *   credits_apply           1456
  */
@@ -73,7 +73,9 @@ enum {
     CREDITS_TOO_MUCH = 25,
     CREDITS_OTHER_UNIT = 26,
     CREDITS_LONG_NAME = 27,   /* detail: the field */
-    CREDITS_BAD_BOOK = 28
+    CREDITS_BAD_BOOK = 28,
+    CREDITS_NOT_EMPTY = 29,
+    CREDITS_AWAITED = 30
 };
 
 /* The detail of CREDITS_TORN_STATE. Check and apply have one state, their source. */
@@ -134,7 +136,8 @@ enum {
     CREDITS_ENTRY_ACT = 2,
     CREDITS_ENTRY_BEGIN = 3,
     CREDITS_ENTRY_FINISH = 4,
-    CREDITS_ENTRY_CANCEL = 5
+    CREDITS_ENTRY_CANCEL = 5,
+    CREDITS_ENTRY_CLOSE = 6
 };
 
 /* What credits_amount_compare gives. */
@@ -190,7 +193,7 @@ typedef struct { uint8_t from, to; credits_amount amount; } credits_transfer;
 /* A book. Bit p of opened: place p is open. Bit t of pending: transfer t is under way. places and transfers say something
  * where their bit is set.
  *
- * A caller may read every field and writes none: a book is made by credits_book_start and altered by the five steps.
+ * A caller may read every field and writes none: a book is made by credits_book_start and altered by the six steps.
  *
  * To keep a book, copy its sizeof(credits_book) bytes, and back. They are of one machine and one CREDITS_VERSION: keep the
  * version beside them. The bytes between the fields are of no meaning, so equal books may differ there; compare fields. A
@@ -254,7 +257,8 @@ credits_started credits_book_start(const uint8_t *unit, uint64_t unit_len);
 
 /* The steps, done in the book that is lent. Sheets are input sheets, as check takes them; act's operations are those of a
  * balance but create, transfer and convert. Finish puts the credits of a transfer at its destination, cancel puts them back at
- * its source; after both the number is free again. */
+ * its source; after both the number is free again. Close gives up a place that holds nothing and that no transfer under way
+ * names at either end: its record is zeros then, and it may be opened again, under another subject. */
 credits_answer credits_book_open(credits_book *book, uint8_t place, const uint8_t *sheet, uint64_t sheet_len);
 credits_answer credits_book_act(credits_book *book, uint8_t place, uint8_t operation, const uint8_t *sheet,
                                 uint64_t sheet_len);
@@ -262,6 +266,7 @@ credits_answer credits_book_begin(credits_book *book, uint8_t from, uint8_t to, 
                                   uint64_t sheet_len);
 credits_answer credits_book_finish(credits_book *book, uint8_t transfer);
 credits_answer credits_book_cancel(credits_book *book, uint8_t transfer);
+credits_answer credits_book_close(credits_book *book, uint8_t place);
 
 /* The run of a session, from its start. */
 credits_run credits_session_run(const uint8_t *session, uint64_t session_len);
@@ -285,7 +290,8 @@ static inline const char *credits_word(uint8_t number)
         "unborn",      "missing",      "not text",     "empty",      "not whole",    "fraction",
         "no field",    "blank",        "not positive", "short",      "over maximum", "overflow",
         "underflow",   "no credit",    "narrow",       "under way",  "off the book", "idle",
-        "itself",      "too much",     "other unit",   "long name",  "bad book"
+        "itself",      "too much",     "other unit",   "long name",  "bad book",     "not empty",
+        "awaited"
     };
     return number < sizeof words / sizeof *words ? words[number] : "unknown";
 }

@@ -35,6 +35,8 @@ pub const TOO_MUCH: u8 = 25;
 pub const OTHER_UNIT: u8 = 26;
 pub const LONG_NAME: u8 = 27;
 pub const BAD_BOOK: u8 = 28;
+pub const NOT_EMPTY: u8 = 29;
+pub const AWAITED: u8 = 30;
 
 // The detail of `TORN_STATE`.
 pub const DETAIL_SOURCE: u8 = 1;
@@ -96,6 +98,7 @@ pub const ENTRY_ACT: u8 = 2;
 pub const ENTRY_BEGIN: u8 = 3;
 pub const ENTRY_FINISH: u8 = 4;
 pub const ENTRY_CANCEL: u8 = 5;
+pub const ENTRY_CLOSE: u8 = 6;
 
 // What `amount_compare` gives.
 pub const LESS: u8 = 0;
@@ -255,6 +258,7 @@ extern "C" {
     pub fn credits_book_begin(book: *mut Book, from: u8, to: u8, transfer: u8, sheet: *const u8, n: u64) -> Answer;
     pub fn credits_book_finish(book: *mut Book, transfer: u8) -> Answer;
     pub fn credits_book_cancel(book: *mut Book, transfer: u8) -> Answer;
+    pub fn credits_book_close(book: *mut Book, place: u8) -> Answer;
     pub fn credits_session_run(session: *const u8, n: u64) -> Run;
     pub fn credits_session_listing(session: *const u8, n: u64, out: *mut u8, out_n: u64) -> u16;
     pub fn credits_book_size() -> u32;
@@ -386,6 +390,10 @@ pub fn book_cancel(book: &mut Book, transfer: u8) -> Answer {
     unsafe { credits_book_cancel(book, transfer) }
 }
 
+pub fn book_close(book: &mut Book, place: u8) -> Answer {
+    unsafe { credits_book_close(book, place) }
+}
+
 pub fn session_run(session: &[u8]) -> Run {
     unsafe { credits_session_run(session.as_ptr(), session.len() as u64) }
 }
@@ -396,11 +404,11 @@ pub fn session_listing(session: &[u8], out: &mut [u8]) -> u16 {
 
 /// The word of a number in README.md's table; "unknown" for a number that is none.
 pub fn word(number: u8) -> &'static str {
-    const WORDS: [&str; 29] = [
+    const WORDS: [&str; 31] = [
         "accepted", "torn state", "torn input", "profile", "operation", "born", "unborn", "missing", "not text", "empty",
         "not whole", "fraction", "no field", "blank", "not positive", "short", "over maximum", "overflow", "underflow",
         "no credit", "narrow", "under way", "off the book", "idle", "itself", "too much", "other unit", "long name",
-        "bad book",
+        "bad book", "not empty", "awaited",
     ];
     WORDS.get(number as usize).copied().unwrap_or("unknown")
 }
@@ -535,6 +543,7 @@ pub enum Entry<'a> {
     Begin { from: u8, to: u8, transfer: u8, sheet: &'a [u8] },
     Finish { transfer: u8 },
     Cancel { transfer: u8 },
+    Close { place: u8 },
 }
 
 impl<'a> Entry<'a> {
@@ -546,6 +555,7 @@ impl<'a> Entry<'a> {
             Entry::Begin { from, to, transfer, sheet } => ([ENTRY_BEGIN, from, to, transfer], sheet),
             Entry::Finish { transfer } => ([ENTRY_FINISH, 0, 0, transfer], &[]),
             Entry::Cancel { transfer } => ([ENTRY_CANCEL, 0, 0, transfer], &[]),
+            Entry::Close { place } => ([ENTRY_CLOSE, place, 0, 0], &[]),
         }
     }
 }
@@ -560,7 +570,8 @@ pub fn build_session<'a>(entries: &[Entry], out: &'a mut [u8]) -> Option<&'a [u8
     for (k, entry) in entries.iter().enumerate() {
         let ([kind, ..], body) = entry.parts();
         // an empty sheet is taken for one that was not built
-        if (kind == ENTRY_START) != (k == 0) || body.is_empty() != matches!(kind, ENTRY_FINISH | ENTRY_CANCEL) {
+        let has_body = !matches!(kind, ENTRY_FINISH | ENTRY_CANCEL | ENTRY_CLOSE);
+        if (kind == ENTRY_START) != (k == 0) || body.is_empty() == has_body {
             return None;
         }
         end = end.checked_add(body.len())?;

@@ -225,7 +225,12 @@ static inline credits_entry credits_entry_cancel(uint8_t transfer)
     return credits_entry_(CREDITS_ENTRY_CANCEL, 0, 0, transfer, NULL, 0);
 }
 
-/* As documents 01 and 02 have each kind: what it does not use is 0, and all but finish and cancel have a body. */
+static inline credits_entry credits_entry_close(uint8_t place)
+{
+    return credits_entry_(CREDITS_ENTRY_CLOSE, place, 0, 0, NULL, 0);
+}
+
+/* As documents 01 and 02 have each kind: what it does not use is 0, and all but finish, cancel and close have a body. */
 static inline int credits_entry_fits_(const credits_entry *e)
 {
     int has_body = e->body && e->body_len > 0 && e->body_len <= CREDITS_SESSION_MAX;
@@ -241,6 +246,8 @@ static inline int credits_entry_fits_(const credits_entry *e)
     case CREDITS_ENTRY_FINISH:
     case CREDITS_ENTRY_CANCEL:
         return e->a == 0 && e->b == 0 && e->body_len == 0;
+    case CREDITS_ENTRY_CLOSE:
+        return e->b == 0 && e->t == 0 && e->body_len == 0;
     default:
         return 0;
     }

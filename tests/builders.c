@@ -347,6 +347,7 @@ static void sessions(void)
     credits_entry entries[6], acted[3];
     const uint8_t acted_bytes[] = { 2, 0, 0, 0, 0, 0, 18, 0, 2, 0, 2, 9, 18, 0, 20, 0, 8, 0, 'r', 'd', 1, 7, 1, 7, 0, 1, 0, '5' };
     const uint8_t cancelled_bytes[] = { 2, 0, 0, 0, 0, 0, 18, 0, 2, 0, 5, 0, 0, 6, 20, 0, 0, 0, 'r', 'd' };
+    const uint8_t closed_bytes[] = { 2, 0, 0, 0, 0, 0, 18, 0, 2, 0, 6, 9, 0, 0, 20, 0, 0, 0, 'r', 'd' };
     uint64_t n1_len, n2_len, five_len;
     fields[0] = credits_field_text(CREDITS_FIELD_SUBJECT, "N1");
     fields[1] = credits_field_text(CREDITS_FIELD_UNIT, "rd");
@@ -371,6 +372,8 @@ static void sessions(void)
     GIVES(a_session(acted, 2), acted_bytes);
     acted[1] = credits_entry_cancel(6);
     GIVES(a_session(acted, 2), cancelled_bytes);
+    acted[1] = credits_entry_close(9);
+    GIVES(a_session(acted, 2), closed_bytes);
 
     REFUSES(a_session(entries, 0));
     REFUSES(a_session(entries + 1, 5)); /* no start */
@@ -381,7 +384,7 @@ static void sessions(void)
     acted[2] = credits_entry_begin(0, 1, 0, NULL, 8);
     REFUSES(a_session(acted, 3));
     acted[2] = entries[5];
-    acted[2].kind = CREDITS_ENTRY_CANCEL + 1;
+    acted[2].kind = CREDITS_ENTRY_CLOSE + 1;
     REFUSES(a_session(acted, 3));
     acted[2] = entries[5];
     acted[2].body = five;
@@ -389,17 +392,20 @@ static void sessions(void)
     REFUSES(a_session(acted, 3)); /* a finish has no body */
     acted[2].kind = CREDITS_ENTRY_CANCEL;
     REFUSES(a_session(acted, 3)); /* nor has a cancel */
+    acted[2].kind = CREDITS_ENTRY_CLOSE;
+    REFUSES(a_session(acted, 3)); /* nor a close */
     HOLDS(credits_build_session(out, ROOM, NULL, 1) == 0);
 }
 
 /* What a kind does not use is 0: of an entry of each kind with one field set, the builder takes those that the library takes. */
 static void unused(void)
 {
-    for (unsigned k = 0; k < 6 * 3; k++) {
+    for (unsigned k = 0; k < 7 * 3; k++) {
         static const uint8_t sheet[] = { 1, 7, 1, 7, 0, 1, 0, '5' };
         credits_entry entries[2];
         uint8_t kind = (uint8_t)(k / 3), *set, raw[10 + 8 + 2 + 8] = { 0 };
-        int is_start = kind == CREDITS_ENTRY_START, has_body = kind != CREDITS_ENTRY_FINISH && kind != CREDITS_ENTRY_CANCEL;
+        int is_start = kind == CREDITS_ENTRY_START;
+        int has_body = kind != CREDITS_ENTRY_FINISH && kind != CREDITS_ENTRY_CANCEL && kind != CREDITS_ENTRY_CLOSE;
         unsigned count = is_start ? 1 : 2, start = 2 + 8 * count, len = start + 2 + (!is_start && has_body ? 8 : 0);
         credits_entry *e = &entries[count - 1];
         entries[0] = credits_entry_start("rd");
@@ -413,6 +419,8 @@ static void unused(void)
             entries[1] = credits_entry_finish(0);
         if (kind == CREDITS_ENTRY_CANCEL)
             entries[1] = credits_entry_cancel(0);
+        if (kind == CREDITS_ENTRY_CLOSE)
+            entries[1] = credits_entry_close(0);
         set = k % 3 == 0 ? &e->a : k % 3 == 1 ? &e->b : &e->t;
         *set = 1;
         raw[0] = (uint8_t)count;

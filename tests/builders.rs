@@ -148,6 +148,16 @@ fn books_and_sessions() {
     assert_eq!((book.places[0].balance, book.places[1].balance, book.pending), (amount(0, 5, 0), amount(0, 0, 0), 0));
     assert_eq!(book_cancel(&mut book, 7).number, IDLE);
     assert_eq!(book_cancel(&mut book, 8).number, OFF_THE_BOOK);
+    assert_eq!(book_close(&mut book, 0).number, NOT_EMPTY);
+    assert_eq!(book_begin(&mut book, 0, 1, 7, five).number, ACCEPTED);
+    assert_eq!((book_close(&mut book, 0).number, book_close(&mut book, 1).number), (AWAITED, AWAITED));
+    assert_eq!(book_finish(&mut book, 7).number, ACCEPTED);
+    assert_eq!(book_close(&mut book, 0).number, ACCEPTED);
+    assert_eq!((book.opened, book.places[0].subject.bytes, book.places[0].subject.len), (2, [0; NAME_MAX], 0));
+    assert_eq!(book_close(&mut book, 0).number, UNBORN);
+    assert_eq!(book_close(&mut book, 16).number, OFF_THE_BOOK);
+    assert_eq!(book_open(&mut book, 0, two).number, ACCEPTED);
+    assert_eq!((book.opened, &book.places[0].subject.bytes[..2]), (3, &b"N2"[..]));
 
     let start = Entry::Start { unit: b"rd" };
     let entries = [
@@ -169,6 +179,8 @@ fn books_and_sessions() {
     gives(&bytes, |out| build_session(&[start, act], out).map(Vec::from));
     let bytes = [2, 0, 0, 0, 0, 0, 18, 0, 2, 0, 5, 0, 0, 6, 20, 0, 0, 0, b'r', b'd'];
     gives(&bytes, |out| build_session(&[start, Entry::Cancel { transfer: 6 }], out).map(Vec::from));
+    let bytes = [2, 0, 0, 0, 0, 0, 18, 0, 2, 0, 6, 9, 0, 0, 20, 0, 0, 0, b'r', b'd'];
+    gives(&bytes, |out| build_session(&[start, Entry::Close { place: 9 }], out).map(Vec::from));
 
     refuses_session(&[]);
     refuses_session(&entries[1..]);

@@ -411,7 +411,8 @@ static void starting(void)
     number_is(AT, "a book's size", credits_book_size(), sizeof(credits_book));
 }
 
-/* A step, its answer and, where it is accepted, the balances (NULL: a closed place) and the transfers that it leaves. */
+/* A step, its answer and, where it is accepted, the balances (NULL: a closed place) and the transfers that it leaves. A balance is
+ * `4/0`; of a place that was opened again it is `N3 4/0`, behind its subject. */
 typedef struct {
     const char *at;
     step s;
@@ -424,6 +425,17 @@ typedef struct {
 
 static const char *const subjects[] = { "N1", "N2", "GW" };
 
+static credits_place place_of(const char *subject, const char *words)
+{
+    credits_place x = no_book.places[0];
+    const char *space = strchr(words, ' ');
+    size_t len = space ? (size_t)(space - words) : strlen(subject);
+    memcpy(x.subject.bytes, space ? words : subject, len);
+    x.subject.len = (uint8_t)len;
+    x.balance = amount_of(space ? space + 1 : words);
+    return x;
+}
+
 /* The book of unit rd that a case leaves. */
 static credits_book book_after(const step_case *c)
 {
@@ -432,8 +444,7 @@ static credits_book book_after(const step_case *c)
     for (int p = 0; p < 3; p++)
         if (c->balances[p]) {
             b.opened |= (uint16_t)(1u << p);
-            b.places[p].subject = name_of(subjects[p]);
-            b.places[p].balance = amount_of(c->balances[p]);
+            b.places[p] = place_of(subjects[p], c->balances[p]);
         }
     for (int t = 0; t < 2; t++)
         if (c->way[t].amount) {
@@ -450,6 +461,8 @@ static credits_book book_after(const step_case *c)
 #define WAYS { { 0, 1, "4/0" }, { 1, 0, "3/0" } }
 #define WAY_1 { { 0, 0, NULL }, { 1, 0, "3/0" } }
 #define NOTHING { { 0, 1, "0/0" }, { 0, 0, NULL } }
+#define WAY_OUT { { 0, 0, NULL }, { 1, 2, "2/0" } }
+#define WAY_BACK { { 2, 1, "4/0" }, { 0, 0, NULL } }
 
 #define REFUSED(kind, a, b, t, input, number, detail) \
     { AT, { kind, a, b, t }, input, number, detail, NULL, NULL, { NULL }, NO_WAY }
@@ -525,11 +538,36 @@ static const step_case steps[] = {
     DONE(CANCEL, 0, 0, 1, NULL, "3/0", "6/0", "0/0", NO_WAY),
     DONE(BEGIN, 1, 0, 1, "7:3", "3/0", "3/0", "0/0", WAY_1), /* the number is free again */
     DONE(FINISH, 0, 0, 1, NULL, "6/0", "3/0", "0/0", NO_WAY),
+    REFUSED(CLOSE, 16, 0, 0, NULL, 22, 0),
+    REFUSED(CLOSE, 255, 0, 0, NULL, 22, 0),
+    REFUSED(CLOSE, 3, 0, 0, NULL, 6, 0),
+    REFUSED(CLOSE, 0, 0, 0, NULL, 29, 0),
+    DONE(BEGIN, 1, 2, 1, "7:2", "6/0", "1/0", "0/0", WAY_OUT),
+    REFUSED(CLOSE, 1, 0, 0, NULL, 29, 0), /* before 30 */
+    REFUSED(CLOSE, 2, 0, 0, NULL, 30, 0), /* at the destination's end */
+    DONE(ACT, 1, 18, 0, "7:1", "6/0", "0/0", "0/0", WAY_OUT),
+    REFUSED(CLOSE, 1, 0, 0, NULL, 30, 0), /* at the source's end */
+    DONE(ACT, 2, 13, 0, "7:1", "6/0", "0/0", "1/0", WAY_OUT),
+    REFUSED(CLOSE, 2, 0, 0, NULL, 29, 0), /* before 30 */
+    DONE(ACT, 2, 18, 0, "7:1", "6/0", "0/0", "0/0", WAY_OUT),
+    DONE(ACT, 0, 18, 0, "7:6", "0/0", "0/0", "0/0", WAY_OUT),
+    DONE(CLOSE, 0, 0, 0, NULL, NULL, "0/0", "0/0", WAY_OUT), /* what is under way names others */
+    REFUSED(CLOSE, 0, 0, 0, NULL, 6, 0),
+    REFUSED(ACT, 0, 13, 0, "7:1", 6, 0),
+    REFUSED(BEGIN, 1, 0, 0, "7:1", 6, 0),
+    DONE(CANCEL, 0, 0, 1, NULL, NULL, "2/0", "0/0", NO_WAY),
+    DONE(CLOSE, 2, 0, 0, NULL, NULL, "2/0", NULL, NO_WAY), /* what named it is not under way any more */
+    DONE(OPEN, 2, 0, 0, "1:N3 2:rd 4:4", NULL, "2/0", "N3 4/0", NO_WAY), /* under another subject */
+    DONE(BEGIN, 2, 1, 0, "7:4", NULL, "2/0", "N3 0/0", WAY_BACK),
+    REFUSED(CLOSE, 2, 0, 0, NULL, 30, 0),
+    DONE(FINISH, 0, 0, 0, NULL, NULL, "6/0", "N3 0/0", NO_WAY),
+    DONE(CLOSE, 2, 0, 0, NULL, NULL, "6/0", NULL, NO_WAY),
+    DONE(OPEN, 0, 0, 0, "1:N3 2:rd 4:0", "N3 0/0", "6/0", NULL, NO_WAY),
 };
 
 static void stepping(void)
 {
-    credits_book book = credits_book_start((const uint8_t *)"rd", 2).book, after = book;
+    credits_book book = credits_book_start((const uint8_t *)"rd", 2).book, after = book, before;
     for (size_t k = 0; k < COUNT(steps); k++) {
         const step_case *c = &steps[k];
         sheet input = sheet_of(c->input);
@@ -538,16 +576,19 @@ static void stepping(void)
         want.requested = amount_of(c->requested);
         if (c->number == 0)
             after = book_after(c);
+        memcpy(&before, &book, sizeof book);
         answer_is(c->at, taken(&book, c->s, input.bytes, input.len), want);
         book_is(c->at, &book, &after);
+        if (c->number)
+            bytes_are(c->at, "a book after a refusal", &book, &before, sizeof book);
     }
 }
 
 /* A full book, N1 with 2^128 - 1 and a transfer of nothing under way from N1 to N2, with one byte of it altered: 28, or
- * what finish and cancel of another transfer answer on a sound book. */
+ * what finish and cancel of another transfer, and close of a closed place, answer on a sound book. */
 static void judging(void)
 {
-    enum { IDLE = 23 };
+    enum { UNBORN = 6, IDLE = 23 };
     static const struct { const char *at; size_t offset; uint8_t value, number; } cases[] = {
         { AT, offsetof(credits_book, pending), 1, IDLE },
         { AT, offsetof(credits_book, unit.len), 0, BAD_BOOK },
@@ -577,7 +618,29 @@ static void judging(void)
         before = b;
         answer_is(cases[k].at, credits_book_finish(&b, 5), refused(cases[k].number, 0));
         answer_is(cases[k].at, credits_book_cancel(&b, 5), refused(cases[k].number, 0));
+        answer_is(cases[k].at, credits_book_close(&b, 2), refused(cases[k].number == IDLE ? UNBORN : BAD_BOOK, 0));
         book_is(cases[k].at, &b, &before);
+    }
+}
+
+/* Each transfer in turn names GW, at either end, while the others are under way and name N1 alone: GW is awaited where that one is under
+ * way too, and else it is closed. */
+static void awaiting(void)
+{
+    static const step_case empty = DONE(OPEN, 2, 0, 0, NULL, "0/0", "0/0", "0/0", NO_WAY);
+    for (int k = 0; k < 8 * 2 * 2; k++) {
+        int t = k / 4, at_source = k / 2 % 2, under_way = k % 2;
+        credits_book b = book_after(&empty), want;
+        b.pending = (uint8_t)(under_way ? 255 : 255 & ~(1u << t));
+        b.transfers[t].from = at_source ? 2 : 1;
+        b.transfers[t].to = at_source ? 1 : 2;
+        want = b;
+        if (!under_way) {
+            want.opened = 3;
+            want.places[2] = no_book.places[2];
+        }
+        answer_is(AT, credits_book_close(&b, 2), refused(under_way ? AWAITED : 0, 0));
+        book_is(AT, &b, &want);
     }
 }
 
@@ -682,6 +745,25 @@ static void listing(void)
     listing_in_each_length(AT, &s, text);
 }
 
+/* The listing shows open places only. A close with b, with t or with a body is no entry. */
+static void closing(void)
+{
+    static session s;
+    for (uint8_t k = 0; k < 4; k++) {
+        step close = { CLOSE, 0, k == 1, k == 2 };
+        begin_session(&s, 5);
+        add_start(&s, "rd");
+        add_step(&s, OPEN, 0, 0, 0, "1:N1 2:rd 4:0");
+        add_step(&s, OPEN, 1, 0, 0, "1:N2 2:rd 4:5");
+        add_entry(&s, close, (const uint8_t *)"x", k == 3);
+        add_step(&s, CLOSE, 1, 0, 0, NULL);
+        if (k > 0)
+            run_of_bad(AT, &s);
+        else
+            listing_in_each_length(AT, &s, "1 0 0\n2 0 0\n3 0 0\n4 29 0\nplace 1 5\nheld 1 way 0 total 5\n");
+    }
+}
+
 /* ---- slices of no bytes: NULL will do */
 
 static void without_bytes(void)
@@ -734,8 +816,10 @@ int main(int argc, char **argv)
     starting();
     stepping();
     judging();
+    awaiting();
     running();
     listing();
+    closing();
     without_bytes();
     steps_without_bytes();
     by_hand = calls;

@@ -8,10 +8,10 @@
 #include <stddef.h>
 #include <stdint.h>
 
-/* Kinds of calls; START to CANCEL are also the kinds of a session's entries. */
-enum { START, OPEN, ACT, BEGIN, FINISH, CANCEL, CHECK, APPLY, CREDIT, KINDS };
+/* Kinds of calls; START to CLOSE are also the kinds of a session's entries. */
+enum { START, OPEN, ACT, BEGIN, FINISH, CANCEL, CLOSE, CHECK, APPLY, CREDIT, KINDS };
 enum { TEXT = 1, OTHER = 2, AMOUNT = 3 }; /* kinds of a sheet's fields */
-enum { SHORT = 15, NARROW = 20, BAD_BOOK = 28, NUMBERS = 29 };
+enum { SHORT = 15, NARROW = 20, BAD_BOOK = 28, AWAITED = 30, NUMBERS = 31 };
 
 /* The greatest mantissa, and the next number, which is none. */
 #define MOST "340282366920938463463374607431768211455"

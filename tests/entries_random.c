@@ -55,7 +55,8 @@ static void flip_a_bit(uint8_t *bytes, size_t n)
 #define NONE D(0)
 #define AMOUNTS (D(3) | D(4) | D(5) | D(6) | D(7))
 
-static const char *const kinds[KINDS] = { "start", "open", "act", "begin", "finish", "cancel", "check", "apply", "credit" };
+static const char *const kinds[KINDS] = { "start",  "open",  "act",   "begin", "finish",
+                                          "cancel", "close", "check", "apply", "credit" };
 
 static const uint16_t details[KINDS][NUMBERS] = {
     [START] = { [0] = NONE, [9] = D(2), [27] = D(2) },
@@ -67,6 +68,7 @@ static const uint16_t details[KINDS][NUMBERS] = {
                 [21] = NONE, [22] = NONE, [24] = NONE, [28] = NONE },
     [FINISH] = { [0] = NONE, [22] = NONE, [23] = NONE, [28] = NONE },
     [CANCEL] = { [0] = NONE, [22] = NONE, [23] = NONE, [28] = NONE },
+    [CLOSE] = { [0] = NONE, [6] = NONE, [22] = NONE, [28] = NONE, [29] = NONE, [30] = NONE },
     [CHECK] = { [0] = NONE, [1] = D(1), [2] = NONE, [3] = NONE, [4] = NONE, [5] = NONE, [6] = NONE,
                 [7] = D(1) | D(2) | AMOUNTS | D(8) | D(9) | D(10), [8] = D(1) | D(2) | D(8) | D(9) | D(10),
                 [9] = D(1) | D(2) | D(8) | D(9) | D(10), [10] = AMOUNTS, [11] = AMOUNTS, [12] = D(3) | D(4) | D(5),
@@ -470,7 +472,26 @@ static int is_bad(const credits_book *b)
     return bad;
 }
 
-/* Noise made sound: whatever 28 does not look at stays noise. */
+/* What a close of that place answers: document 02's request 2, behind 28. */
+static uint8_t close_number(const credits_book *b, uint8_t place)
+{
+    credits_uint128 held;
+    if (is_bad(b))
+        return BAD_BOOK;
+    if (place > 15)
+        return 22;
+    if (!is_open(b, place))
+        return 6;
+    held = b->places[place].balance.mantissa;
+    if (held.hi || held.lo)
+        return 29;
+    for (int t = 0; t < 8; t++)
+        if ((b->pending >> t & 1) && (b->transfers[t].from == place || b->transfers[t].to == place))
+            return AWAITED;
+    return 0;
+}
+
+/* Noise made sound, with empty places for closes: whatever 28 does not look at stays noise. */
 static void tame(credits_book *b)
 {
     b->unit = name_of("rd");
@@ -478,6 +499,8 @@ static void tame(credits_book *b)
         b->places[p].subject.len = (uint8_t)(1 + below(32));
         b->places[p].balance.scale = 0;
         b->places[p].balance.mantissa.hi >>= 5 + below(59);
+        if (one_in(4))
+            b->places[p].balance = zero;
     }
     for (int t = 0; t < 8; t++) {
         credits_transfer *x = &b->transfers[t];
@@ -496,10 +519,16 @@ static int is_end(uint8_t kind)
     return kind == FINISH || kind == CANCEL;
 }
 
+/* Of a step, its sheet; of a start, its unit. */
+static int has_body(uint8_t kind)
+{
+    return !is_end(kind) && kind != CLOSE;
+}
+
 static step any_step(void)
 {
     static const uint8_t operations[] = { 12, 13, 14, 16, 17, 18, 19 };
-    step s = { (uint8_t)(OPEN + below(5)), 0, 0, 0 };
+    step s = { (uint8_t)(OPEN + below(6)), 0, 0, 0 };
     if (!is_end(s.kind))
         s.a = some(5);
     if (s.kind == ACT)
@@ -536,6 +565,10 @@ static void left_by(step s, const credits_book *before, const credits_book *afte
         want.transfers[s.t].to = s.b;
         want.transfers[s.t].amount = after->transfers[s.t].amount;
         break;
+    case CLOSE:
+        want.opened &= (uint16_t)~D(s.a);
+        want.places[s.a] = no_book.places[0];
+        break;
     default: /* finish or cancel */
         want.pending &= (uint8_t)~D(s.t);
         add_to(&want.places[lands].balance.mantissa, carried->amount.mantissa);
@@ -546,12 +579,12 @@ static void left_by(step s, const credits_book *before, const credits_book *afte
     total_over(before, &was.mantissa);
     total_over(after, &is.mantissa);
     order = credits_amount_compare(was, is);
-    if (s.kind == BEGIN || is_end(s.kind))
-        number_is(AT, "the total before, beside the one after a transfer", order, 1);
+    if (s.kind == OPEN)
+        number_is(AT, "whether an open lessened the total", order == 2, 0);
     else if (s.kind == ACT)
         number_is(AT, "the total before, beside the one after an act", order, s.b == 12 || s.b == 13 || s.b == 17 ? 0 : 2);
     else
-        number_is(AT, "whether an open lessened the total", order == 2, 0);
+        number_is(AT, "the total before, beside the one after a transfer or a close", order, 1);
 }
 
 /* A step on a lent book. A refusal leaves every byte of it, padding too. */
@@ -575,7 +608,9 @@ static void random_step(lent *l)
         left_by(s, &before.book, &l->book);
     if (a.number == SHORT)
         amount_is(AT, "available", a.available, before.book.places[s.a].balance);
-    if (!is_end(s.kind) && (a.number == 0 || a.number == 2))
+    if (s.kind == CLOSE)
+        number_is(AT, "the number for this close", a.number, close_number(&before.book, s.a));
+    if (has_body(s.kind) && (a.number == 0 || a.number == 2))
         number_is(AT, "the number for this sheet", a.number, is_input(&input) ? 0 : 2);
 }
 
@@ -629,28 +664,28 @@ static void any_session(session *s)
     while (s->entries < n) {
         sheet body = any_input();
         step x = any_step();
-        if (s->entries < 4 && !one_in(8)) { /* so that later steps find something */
+        if (s->entries < 4 && !one_in(8)) { /* so that later steps find something, and closes an empty place */
             const step open = { OPEN, (uint8_t)s->entries, 0, 0 };
             x = open;
-            body = sheet_of("1:N1 2:rd 4:100");
+            body = sheet_of(one_in(3) ? "1:N1 2:rd 4:0" : "1:N1 2:rd 4:100");
         }
         if (s->len > 30000) /* the space of a session is nearly full */
             x = finish;
-        add_entry(s, x, body.bytes, is_end(x.kind) ? 0 : body.len);
+        add_entry(s, x, body.bytes, has_body(x.kind) ? body.len : 0);
     }
 }
 
 /* Its layout as the documents have it, and a start that is accepted. */
 static int is_good(const session *s)
 {
-    static const uint8_t used[] = { 0, D(1), D(1) | D(2), D(1) | D(2) | D(3), D(3), D(3) }; /* of a kind's a, b, t */
+    static const uint8_t used[] = { 0, D(1), D(1) | D(2), D(1) | D(2) | D(3), D(3), D(3), D(1) }; /* of a kind's a, b, t */
     size_t n = get16(s->bytes), end = 2 + 8 * n;
     if (s->len < 2 || s->len > 16384 || n < 1 || n > 256 || end > s->len)
         return 0;
     for (size_t k = 0; k < n; k++) {
         const uint8_t *entry = s->bytes + 2 + 8 * k;
         size_t len = get16(entry + 6);
-        if (entry[0] > CANCEL || (entry[0] == START) != (k == 0) || get16(entry + 4) != end || (is_end(entry[0]) && len))
+        if (entry[0] > CLOSE || (entry[0] == START) != (k == 0) || get16(entry + 4) != end || (!has_body(entry[0]) && len))
             return 0;
         for (int f = 1; f <= 3; f++)
             if (entry[f] && !(used[entry[0]] >> f & 1))

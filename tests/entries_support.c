@@ -260,8 +260,10 @@ credits_answer taken(credits_book *book, step s, const uint8_t *bytes, size_t le
         return credits_book_begin(book, s.a, s.b, s.t, bytes, len);
     case FINISH:
         return credits_book_finish(book, s.t);
-    default:
+    case CANCEL:
         return credits_book_cancel(book, s.t);
+    default:
+        return credits_book_close(book, s.a);
     }
 }
 

@@ -4,7 +4,7 @@
 The first list is document 01's worked session; each other one is a start and random steps. tools/ledger.py gives each expected answer and, at the list's end, the whole book. One list in four
 has its book altered on the way, as no step would, and goes on: 28, or whatever documents 01 and 02 say of that book.
 
-A record: kind, a, b, t, the body's length (16 bits), the body; for a start (kind 0) and a step (1 to 5) then the expected number and
+A record: kind, a, b, t, the body's length (16 bits), the body; for a start (kind 0) and a step (1 to 6) then the expected number and
 detail, and behind 15 both amounts (16 bytes each, little-endian). Kind 16 alters field a of record b to t. Kind 17 ends a list: its body is
 the expected book: the open places (16 bits), the transfers under way (8 bits), each open place's subject (33 bytes: 32 and the length) and
 balance, each transfer's ends and amount. Kind 18 is the list before it once more, through the run: its body is the list as a session, t the
@@ -78,8 +78,9 @@ def whole(book):
 
 
 def as_entry(kind, a, b, t, body):
-    """A step as a session's entry: what its kind does not use is 0, and a finish or a cancel has no body."""
-    return {1: (1, a, 0, 0, body), 2: (2, a, b, 0, body), 3: (3, a, b, t, body), 4: (4, 0, 0, t, b""), 5: (5, 0, 0, t, b"")}[kind]
+    """A step as a session's entry: what its kind does not use is 0, and a finish, a cancel or a close has no body."""
+    return {1: (1, a, 0, 0, body), 2: (2, a, b, 0, body), 3: (3, a, b, t, body), 4: (4, 0, 0, t, b""), 5: (5, 0, 0, t, b""),
+            6: (6, a, 0, 0, b"")}[kind]
 
 
 def why_not(entries, was_altered):
@@ -138,7 +139,7 @@ for n in range(lists):
 with open(os.path.join(CRATE, "stdin"), "wb") as f:
     f.write(out)
 with open(os.path.join(CRATE, "stdout"), "w") as f:
-    for number in range(29):
+    for number in range(31):
         if numbers[number]:
             f.write("number %d: %d equal, 0 unequal\n" % (number, numbers[number]))
     f.write("books at a list's end: %d equal, 0 unequal\nalterations: %d\naltered books that met 28: %d\n" % (looks, altered, bad))

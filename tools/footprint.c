@@ -179,7 +179,8 @@ static void books(void)
     const sheet most = opening("N2", "rd", "340282366920938463463374607431768211450"), one = asking("1");
     const sheet inputs[INPUTS] = { { { 0 }, 0 }, opening("N3", "rd", "5"), opening("N3", "xx", "5"), asking("3"), asking("4000"), most };
     row start = { "credits_book_start", 3481, 0 }, open = { "credits_book_open", 2457, 0 }, act = { "credits_book_act", 2457, 0 },
-        begin = { "credits_book_begin", 2457, 0 }, finish = { "credits_book_finish", 2457, 0 }, cancel = { "credits_book_cancel", 2457, 0 };
+        begin = { "credits_book_begin", 2457, 0 }, finish = { "credits_book_finish", 2457, 0 }, cancel = { "credits_book_cancel", 2457, 0 },
+        close = { "credits_book_close", 2457, 0 };
     const size_t lengths[] = { 0, 1, 2, 32, 33 };
     for (size_t i = 0; i < 5; i++) {
         uint64_t regs[6] = { WORD(result), WORD("rdrdrdrdrdrdrdrdrdrdrdrdrdrdrdrdrd"), lengths[i] };
@@ -188,13 +189,13 @@ static void books(void)
     show(start);
     all[0] = credits_book_start((const uint8_t *)"rd", 2).book;
     all[1] = all[0];
-    for (uint8_t p = 0; p < 14; p++) {
-        const sheet s = opening("N1", "rd", "1000");
+    for (uint8_t p = 0; p < 15; p++) {
+        const sheet s = opening("N1", "rd", p < 14 ? "1000" : "0"); /* the last may be closed */
         credits_book_open(&all[1], p, s.bytes, s.len);
     }
     all[2] = all[1];
-    for (uint8_t t = 0; t < 7; t++)
-        credits_book_begin(&all[2], t, (uint8_t)(t + 1), t, one.bytes, one.len);
+    for (uint8_t t = 0; t < 7; t++) /* the last place is awaited */
+        credits_book_begin(&all[2], t, (uint8_t)(t < 6 ? t + 1 : 14), t, one.bytes, one.len);
     memset(&all[3], 0xFF, sizeof all[3]);
     for (size_t b = 0; b < BOOKS; b++)
         for (size_t i = 0; i < INPUTS; i++)
@@ -213,15 +214,19 @@ static void books(void)
                 take(&finish, (const void *)credits_book_finish, ends, NULL, 0);
                 book = all[b];
                 take(&cancel, (const void *)credits_book_cancel, ends, NULL, 0);
+                book = all[b];
+                take(&close, (const void *)credits_book_close, ends, NULL, 0);
             }
     show(open);
     show(act);
     show(begin);
     show(finish);
     show(cancel);
+    show(close);
 }
 
-/* ---- sessions: of no bytes, of a start alone, and of 254 opens, acts and begins, each begin with its finish or its cancel */
+/* ---- sessions: of no bytes, of a start alone, and of 255 opens, acts, closes of what was opened empty, and begins, each with its finish
+ * or its cancel */
 
 static size_t entry(uint8_t *session, size_t k, size_t at, const uint8_t head[4], const void *body, size_t len)
 {
@@ -235,7 +240,7 @@ static void sessions(void)
 {
     enum { ENTRIES = 256 };
     static uint8_t session[16384], out[4096];
-    const sheet opened = opening("N1", "rd", "1000"), three = asking("3");
+    const sheet opened = opening("N1", "rd", "1000"), empty = opening("N1", "rd", "0"), three = asking("3");
     size_t lengths[] = { 0, 12, 0 }, at = 2 + 8 * ENTRIES;
     row ran = { "credits_session_run", 7168, 0 }, listed = { "credits_session_listing", 0, 0 };
     for (size_t n = 1; n < 3; n++) {
@@ -243,10 +248,11 @@ static void sessions(void)
         session[0] = (uint8_t)entries, session[1] = (uint8_t)(entries >> 8);
         at = entry(session, 0, 2 + 8 * entries, (const uint8_t[4]){ 0 }, "rd", 2);
         for (size_t k = 1; k < entries; k++) {
-            uint8_t turn = (uint8_t)(k % 4), t = (uint8_t)(k / 4 % 8);
-            const uint8_t heads[4][4] = { { 1, (uint8_t)(k / 4 % 16) }, { 2, 0, 18 }, { 3, 0, 1, t }, { t % 2 ? 5 : 4, 0, 0, t } };
-            const sheet *body = turn == 0 ? &opened : &three;
-            at = entry(session, k, at, heads[turn], body->bytes, turn == 3 ? 0 : body->len);
+            uint8_t turn = (uint8_t)(k % 4), t = (uint8_t)(k / 4 % 8), p = (uint8_t)(k / 4 % 16);
+            const uint8_t heads[4][4] = { { 1, p }, { 2, 0, 18 }, { 3, 0, 2, t }, { t % 2 ? 5 : 4, 0, 0, t } }, close[4] = { 6, p };
+            const uint8_t *head = p % 2 && turn == 1 ? close : heads[turn];
+            const sheet *body = turn > 0 ? &three : p % 2 ? &empty : &opened;
+            at = entry(session, k, at, head, body->bytes, head[0] < 4 ? body->len : 0);
         }
         lengths[n] = at;
         uint64_t regs[6] = { WORD(result), WORD(session), lengths[n] };

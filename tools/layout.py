@@ -10,9 +10,10 @@ SUBJECT, UNIT, QUANTITY, BALANCE, REMAINING, MAXIMUM, AMOUNT, TO_SUBJECT, TO_UNI
 TEXT, NO_STRING = 1, 2  # kinds of an input sheet's fields
 MOST_TEXT = 256
 
-START, OPEN, ACT, BEGIN, FINISH, CANCEL = range(6)  # kinds of a session's entries
-KINDS = ("start", "open", "act", "begin", "finish", "cancel")
+START, OPEN, ACT, BEGIN, FINISH, CANCEL, CLOSE = range(7)  # kinds of a session's entries
+KINDS = ("start", "open", "act", "begin", "finish", "cancel", "close")
 ENDS = (FINISH, CANCEL)  # of these an entry has a transfer, t, and nothing else
+BARE = (*ENDS, CLOSE)  # of these it has one number, t or a close's a, and no body
 OPERATIONS = {"mint": 12, "credit": 13, "debit": 14, "reserve": 16, "release": 17, "spend": 18, "burn": 19}  # those of act
 MOST_BYTES, MOST_ENTRIES = 16384, 256
 MOST_NAME = 32  # bytes of a unit or a subject
@@ -121,11 +122,11 @@ def wrong_entry(k, kind, a, b, t, length):
         return "a second start"
     if kind >= len(KINDS):
         return "its kind is %d; kinds are 0 to %d" % (kind, len(KINDS) - 1)
-    unused = {START: "abt", OPEN: "bt", ACT: "t", BEGIN: "", FINISH: "ab", CANCEL: "ab"}[kind]
+    unused = {START: "abt", OPEN: "bt", ACT: "t", BEGIN: "", FINISH: "ab", CANCEL: "ab", CLOSE: "bt"}[kind]
     for field, value in zip("abt", (a, b, t)):
         if field in unused and value:
             return "its field %s is %d; this kind does not use it, so it must be 0" % (field, value)
-    if kind in ENDS and length:
+    if kind in BARE and length:
         return "it has a body of %s; a %s has none" % (count_of(length, "byte"), KINDS[kind])
     return None
 

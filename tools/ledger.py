@@ -190,6 +190,20 @@ def do_cancel(book, transfer):
     book.places[r.source].balance += r.amount
 
 
+def do_close(book, place):
+    """Document 02, request 2: the node leaves, and the place may be opened again."""
+    if place > 15:
+        raise Refused(22)
+    if place not in book.opened:
+        raise Refused(6)
+    if book.places[place].balance:
+        raise Refused(29)
+    if any(place in (book.transfers[t].source, book.transfers[t].destination) for t in book.pending):
+        raise Refused(30)
+    book.opened.remove(place)
+    book.places[place] = Place()
+
+
 def step(book, kind, a, b, t, body):
     """Does a session's entry on the book; gives the answer."""
     if book.is_bad():
@@ -205,6 +219,8 @@ def step(book, kind, a, b, t, body):
             do_finish(book, t)
         elif kind == 5:
             do_cancel(book, t)
+        elif kind == 6:
+            do_close(book, a)
         else:
             raise ValueError("kind %d is no step" % kind)
     except Refused as refused:

@@ -34,13 +34,18 @@ def torn(rng, data):
     return bytes(data)
 
 
+def of_held(rng, book, place):
+    """An amount; now and then all that the place holds, so that places are emptied."""
+    return b"%d" % book.places[place].balance if place in book.opened and rng.random() < .25 else amount_text(rng)
+
+
 def some(rng, most, odd=.05):
     return rng.randrange(256) if rng.random() < odd else rng.randrange(most)
 
 
 def a_step(rng, book, k):
     """Opens first; then any step, mostly one that the book could take."""
-    kind = 1 if k < 3 and rng.random() < .9 else rng.choice([1, 2, 2, 2, 3, 3, 3, 3, 3, 4, 4, 5, 5])
+    kind = 1 if k < 3 and rng.random() < .9 else rng.choice([1, 1, 2, 2, 2, 2, 3, 3, 3, 3, 3, 3, 4, 4, 5, 5, 6, 6, 6])
     if kind in ENDS and not book.pending and rng.random() < .7:
         kind = 3  # so that there is something to finish or cancel
     if kind == 3 and len(book.opened) < 2 and rng.random() < .7:
@@ -48,17 +53,25 @@ def a_step(rng, book, k):
     here = sorted(book.opened) or [0]
     place = lambda: rng.choice(here) if rng.random() < .85 else some(rng, 6)
     if kind == 1:
-        unit = rng.choice([b"rd"] * 12 + [b"re", b"r", b"rd" * 20])
+        unit = rng.choice([b"rd"] * 24 + [b"re", b"r", b"rd" * 20])
         subject = rng.choice(SUBJECTS * 4 + [b"y" * 33])
-        return 1, k if k < 3 else some(rng, 6), 0, 0, torn(rng, sheet(*field(rng, SUBJECT, subject), *field(rng, UNIT, unit), *field(rng, BALANCE, amount_text(rng))))
+        balance = b"0" if rng.random() < .15 else amount_text(rng)
+        shut = [p for p in range(6) if p not in book.opened]
+        at = k if k < 3 else shut[0] if shut and rng.random() < .6 else some(rng, 6)  # often one that was closed
+        return 1, at, 0, 0, torn(rng, sheet(*field(rng, SUBJECT, subject, .02), *field(rng, UNIT, unit, .02), *field(rng, BALANCE, balance, .02)))
     if kind == 2:
         operation = rng.choice([12, 13, 14, 16, 17, 18, 19] * 3 + [11, 15, 20, 0, 255])
-        return 2, place(), operation, 0, torn(rng, sheet(*field(rng, AMOUNT, amount_text(rng)), *field(rng, AUTHORIZED_BY, b"boss", .1)))
+        at = place()
+        return 2, at, operation, 0, torn(rng, sheet(*field(rng, AMOUNT, of_held(rng, book, at)), *field(rng, AUTHORIZED_BY, b"boss", .1)))
     if kind == 3:
         other = field(rng, TO_SUBJECT, b"Z") if rng.random() < .2 else ()
         source = place()
         there = [p for p in here if p != source]
-        return 3, source, rng.choice(there) if there and rng.random() < .8 else place(), some(rng, 4, .04), torn(rng, sheet(*field(rng, AMOUNT, amount_text(rng)), *other))
+        destination = rng.choice(there) if there and rng.random() < .8 else place()
+        return 3, source, destination, some(rng, 4, .04), torn(rng, sheet(*field(rng, AMOUNT, of_held(rng, book, source)), *other))
+    if kind == CLOSE:
+        empty = [p for p in sorted(book.opened) if not book.places[p].balance]
+        return 6, rng.choice(empty) if empty and rng.random() < .8 else place(), 0, 0, b""
     return kind, 0, 0, rng.choice(sorted(book.pending)) if book.pending and rng.random() < .7 else some(rng, 4, .04), b""
 
 

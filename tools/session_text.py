@@ -10,10 +10,12 @@ FORMS = {  # what to write, for messages
     "begin": "begin FROM TO TRANSFER FIELD.., as: begin 0 1 0 amount=5",
     "finish": "finish TRANSFER, as: finish 0",
     "cancel": "cancel TRANSFER, as: cancel 0",
+    "close": "close PLACE, as: close 0",
     "bytes": "bytes HEX, as: bytes 0100ff",
 }
 STEPS = {"open": (OPEN, ("the place",)), "act": (ACT, ("the place", "the operation")),
-         "begin": (BEGIN, ("the source", "the destination", "the transfer")), "finish": (FINISH, ("the transfer",)), "cancel": (CANCEL, ("the transfer",))}
+         "begin": (BEGIN, ("the source", "the destination", "the transfer")), "finish": (FINISH, ("the transfer",)), "cancel": (CANCEL, ("the transfer",)),
+         "close": (CLOSE, ("the place",))}
 QUOTED = r'"(?:[^"\\]|\\["\\]|\\x[0-9a-fA-F]{2})*"'
 SPACE = re.compile(r"[ \t]*")
 WORD = re.compile(r'(?:[^ \t"]|%s)+' % QUOTED)
@@ -120,17 +122,17 @@ def fields(words):
 
 def entry(words):
     if words[0] not in STEPS:
-        raise Wrong("`%s` is no step; write unit, open, act, begin, finish, cancel or bytes at the start of the line" % words[0])
+        raise Wrong("`%s` is no step; write unit, open, act, begin, finish, cancel, close or bytes at the start of the line" % words[0])
     form = FORMS[words[0]]
     kind, wanted = STEPS[words[0]]
     given, rest = words[1:1 + len(wanted)], words[1 + len(wanted):]
     if len(given) < len(wanted):
         raise Wrong("%s is missing; write %s" % (wanted[len(given)], form))
     numbers = [operation(word, form) if what == "the operation" else number(word, what, form) for word, what in zip(given, wanted)]
-    if kind in ENDS:
+    if kind in BARE:
         if rest:
             raise Wrong("%s has no field; write %s" % (words[0], form))
-        return kind, 0, 0, numbers[0], b""
+        return (kind, numbers[0], 0, 0, b"") if kind == CLOSE else (kind, 0, 0, numbers[0], b"")
     return (kind, *(numbers + [0, 0])[:3], fields(rest))
 
 
@@ -201,8 +203,8 @@ def line_of(kind, a, b, t, body):
     """The line of a sound session's entry."""
     if kind == START:
         return "unit " + shown(body)
-    if kind in ENDS:
-        return "%s %d" % (KINDS[kind], t)
+    if kind in BARE:
+        return "%s %d" % (KINDS[kind], a if kind == CLOSE else t)
     words = {number: word for word, number in OPERATIONS.items()}
     head = {OPEN: ["open", a], ACT: ["act", a, words.get(b, b)], BEGIN: ["begin", a, b, t]}[kind]
     return " ".join([str(x) for x in head] + fields_shown(body))

@@ -47,6 +47,7 @@ impl Name {
 }
 
 const BLANK: Name = Name { bytes: [0; 32], len: 0 };
+const CLOSED: Place = Place { subject: BLANK, balance: direct::ZERO };
 const FREE: Transfer = Transfer { from: 0, to: 0, amount: direct::ZERO };
 
 fn whole(mantissa: u128) -> Amount {
@@ -62,8 +63,7 @@ impl Book {
         if !(1..=32).contains(&unit.len()) {
             return None;
         }
-        let place = Place { subject: BLANK, balance: direct::ZERO };
-        Some(Book { unit: Name::new(unit), opened: 0, pending: 0, places: [place; 16], transfers: [FREE; 8] })
+        Some(Book { unit: Name::new(unit), opened: 0, pending: 0, places: [CLOSED; 16], transfers: [FREE; 8] })
     }
 
     fn is_open(&self, p: u8) -> bool {
@@ -198,6 +198,30 @@ impl Book {
         Ok(())
     }
 
+    // Whether a transfer under way names the place, at either end.
+    fn is_awaited(&self, p: u8) -> bool {
+        let names = |t: &Transfer| t.from == p || t.to == p;
+        self.transfers.iter().enumerate().any(|(t, transfer)| self.pending >> t & 1 == 1 && names(transfer))
+    }
+
+    fn close_at(&mut self, p: u8) -> Result<(), No> {
+        if p > 15 {
+            return Err(refused(22));
+        }
+        if !self.is_open(p) {
+            return Err(refused(6));
+        }
+        if self.places[usize::from(p)].balance.mantissa != 0 {
+            return Err(refused(29));
+        }
+        if self.is_awaited(p) {
+            return Err(refused(30));
+        }
+        self.places[usize::from(p)] = CLOSED;
+        self.opened &= !(1 << p);
+        Ok(())
+    }
+
     pub fn open(&mut self, p: u8, sheet: &[u8]) -> Answer {
         answer(self.total().and_then(|total| self.open_at(total, p, sheet)).map(|()| None))
     }
@@ -212,6 +236,9 @@ impl Book {
     }
     pub fn cancel(&mut self, t: u8) -> Answer {
         answer(self.total().and_then(|_| self.cancel_at(t)).map(|()| None))
+    }
+    pub fn close(&mut self, p: u8) -> Answer {
+        answer(self.total().and_then(|_| self.close_at(p)).map(|()| None))
     }
 }
 
@@ -253,6 +280,7 @@ fn is_sound(s: &[u8]) -> bool {
             2 => k > 0 && t == 0,
             3 => k > 0,
             4 | 5 => k > 0 && a == 0 && b == 0 && word(row, 6) == 0,
+            6 => k > 0 && b == 0 && t == 0 && word(row, 6) == 0,
             _ => false,
         };
         if !fits || word(row, 4) != at {
@@ -280,7 +308,8 @@ pub fn run(s: &[u8]) -> Option<Run> {
             2 => r.book.act_at(total, a, b, sheet),
             3 => r.book.begin_at(a, b, t, sheet),
             4 => r.book.finish_at(t).map(|()| None),
-            _ => r.book.cancel_at(t).map(|()| None),
+            5 => r.book.cancel_at(t).map(|()| None),
+            _ => r.book.close_at(a).map(|()| None),
         };
         if matches!(done, Ok(None)) {
             let after = r.book.places[usize::from(a & 15)].balance.mantissa;

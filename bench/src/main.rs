@@ -161,15 +161,17 @@ impl Bench {
     }
 }
 
-// Both books with eight places open and transfers 0, 1 and 2 under way.
+// Both books with eight places open, the last of them empty, so that it may be closed, and transfers 0, 1 and 2 under way.
 fn books() -> (Book, book::Book) {
-    let (open, three) = (opening(), asking("3"));
+    let (open, three, all) = (opening(), asking("3"), asking("100000"));
     let mut c = unsafe { credits_book_start(b"rd".as_ptr(), 2) }.book;
     let mut h = book::Book::start(b"rd").expect("a unit");
     for p in 0..8 {
         unsafe { credits_book_open(&mut c, p, open.as_ptr(), open.len() as u64) };
         h.open(p, &open);
     }
+    unsafe { credits_book_act(&mut c, 7, 18, all.as_ptr(), all.len() as u64) };
+    h.act(7, 18, &all);
     for t in 0..3 {
         unsafe { credits_book_begin(&mut c, t, t + 1, t, three.as_ptr(), three.len() as u64) };
         h.begin(t, t + 1, t, &three);
@@ -283,6 +285,8 @@ cells! {
     finish_hand b { let a = b.hand.finish(black_box(1)); b.took_hand(a); }
     cancel_library b { let a = unsafe { credits_book_cancel(&mut b.book, 1) }; b.took(a); }
     cancel_hand b { let a = b.hand.cancel(black_box(1)); b.took_hand(a); }
+    close_library b { let a = unsafe { credits_book_close(&mut b.book, 7) }; b.took(a); }
+    close_hand b { let a = b.hand.close(black_box(7)); b.took_hand(a); }
 
     run_library b { b.answered.2 = black_box(unsafe { credits_session_run(b.session.as_ptr(), b.session.len() as u64) }).count; }
     run_hand b { b.answered.2 = black_box(book::run(&b.session)).map_or(0, |r| r.count as u16); }

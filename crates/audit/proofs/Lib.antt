@@ -2,3 +2,4 @@
 pub mod BitCode
 pub mod Sums
 pub mod Sound
+pub mod Naming

@@ -1,5 +1,5 @@
 -- The book's own refusals, and their order where two apply at once, computed from bytes: a table of steps on one book and what each
--- answers, worked out by hand from document 01. A definition that forgets a test or has two in another order is refused here by a row, and
+-- answers, worked out by hand from documents 01 and 02. A definition that forgets a test or has two in another order is refused here by a row, and
 -- first here, since the prover goes by the names of the files.
 use mathlib.Core.Path.{◌≡◌, refl}
 use mathlib.Core.Bool.{false}
@@ -19,10 +19,10 @@ use Rattle.registry.specs.Readers.{text_in, bytes_of, marked, parsed, amount_by,
 use Rattle.registry.specs.Tests.{state_absent, state_there, above_zero, held_by}
 use Rattle.registry.specs.declared.error.Answer.{Answer}
 use Rattle.profiles.specs.Balance.{balance_rules}
-use Rattle.book.specs.Sets.{bit, entry}
+use Rattle.book.specs.Sets.{bit, entry, any}
 use Rattle.book.specs.Refusals.{book_answer_of}
-use Rattle.book.specs.Book.{whole_amount, name_bytes, name_of, blank_name, blank_place, blank_transfer, place_record, transfer_record, place_at, transfer_at, balances, credits_under_way, total, name_ok, is_well_formed, set_subject, set_balance, set_unit, set_places}
-use Rattle.book.specs.Steps.{Step, Open, Act, Begin, Finish, Cancel, credits_in, bytes_in, adds, acts, doing, tests_open, tests_act, tests_begin, tests_finish, seen, answer}
+use Rattle.book.specs.Book.{whole_amount, name_bytes, name_of, blank_name, blank_place, blank_transfer, place_record, transfer_record, place_at, transfer_at, balances, credits_under_way, total, awaited, name_ok, is_well_formed, set_subject, set_balance, set_unit, set_places}
+use Rattle.book.specs.Steps.{Step, Open, Act, Begin, Finish, Cancel, Close, credits_in, bytes_in, adds, acts, doing, tests_open, tests_act, tests_begin, tests_finish, tests_close, seen, answer}
 use Rattle.book.specs.declared.Name.{Name}
 use Rattle.book.specs.declared.Place.{Place}
 use Rattle.book.specs.declared.Book.{Book}
@@ -158,6 +158,22 @@ finishing = row (Finish 2) 0 0 ∷ row (Finish 8) 22 0 ∷ row (Finish 0) 23 0 �
 abbrev cancelling : List Row
 cancelling = row (Cancel 2) 0 0 ∷ row (Cancel 8) 22 0 ∷ row (Cancel 0) 23 0 ∷ []
 
+-- document 02, request 2. 22 before 6: place 16 is not open. 29 before 30: the transfer names both places
+abbrev closing : List Row
+closing = row (Close 16) 22 0 ∷ row (Close 2) 6 0 ∷ row (Close 0) 29 0 ∷ row (Close 1) 29 0 ∷ []
+
+-- both places are empty, and the transfer between them is under way or not
+abbrev emptied : ℕ → Book
+emptied pending =
+    left (account 49 0) (account 50 0) pending (blank_transfer ∷ blank_transfer ∷ record { from = 0; to = 1; amount = whole_amount 6 } ∷ replicate 5 blank_transfer)
+
+-- 30 at the source's end and at the destination's; of a transfer that is not under way none
+abbrev awaiting : List Row
+awaiting = row (Close 0) 30 0 ∷ row (Close 1) 30 0 ∷ []
+
+abbrev leaving : List Row
+leaving = row (Close 0) 0 0 ∷ row (Close 1) 0 0 ∷ []
+
 -- ---- books that meet 28
 
 -- names of no bytes and of 33; an amount of scale 1
@@ -207,11 +223,12 @@ on_full =
     ∷ row (Begin 0 1 0 (asking 51)) 0 0
     ∷ row (Finish 2) 0 0
     ∷ row (Cancel 2) 0 0
+    ∷ row (Close 0) 29 0
     ∷ []
 
 -- 28 comes before any other
 abbrev on_bad : List Row
-on_bad = row (Open 16 torn) 28 0 ∷ row (Act 16 0 torn) 28 0 ∷ row (Begin 16 16 8 torn) 28 0 ∷ row (Finish 8) 28 0 ∷ row (Cancel 8) 28 0 ∷ []
+on_bad = row (Open 16 torn) 28 0 ∷ row (Act 16 0 torn) 28 0 ∷ row (Begin 16 16 8 torn) 28 0 ∷ row (Finish 8) 28 0 ∷ row (Cancel 8) 28 0 ∷ row (Close 16) 28 0 ∷ []
 
 -- ---- computed
 
@@ -225,8 +242,12 @@ pub answered : Answers second_left opens × Answers second_left acting × Answer
     × Answers full_book on_full × Answers (with_transfer 0 0 1 tenth) on_bad
     × (answer second_left (Begin 0 1 0 (asking 51)) ≡ Ok tt) × (answer second_left (Finish 2) ≡ Ok tt)
     × (answer second_left (Cancel 2) ≡ Ok tt)
-unfolding val limit halves order_of all_digits digits_after decimal amount_if read_of compare_of zeros every sum prior entry_at entries_from lookup sound_as field encode text_in bytes_of marked parsed amount_by amount_of state_absent state_there above_zero held_by balance_rules bit entry name_bytes name_of blank_name blank_place blank_transfer place_record transfer_record place_at transfer_at balances credits_under_way total name_ok is_well_formed credits_in bytes_in adds acts doing tests_open tests_act tests_begin tests_finish seen answer
+unfolding val limit halves order_of all_digits digits_after decimal amount_if read_of compare_of zeros every sum prior entry_at entries_from lookup sound_as field encode text_in bytes_of marked parsed amount_by amount_of state_absent state_there above_zero held_by balance_rules bit entry name_bytes name_of blank_name blank_place blank_transfer place_record transfer_record place_at transfer_at balances credits_under_way total any awaited name_ok is_well_formed credits_in bytes_in adds acts doing tests_open tests_act tests_begin tests_finish tests_close seen answer
 answered = (refl, refl, refl, refl, refl, refl, refl, refl, refl, refl)
+
+pub close_answered : Answers second_left closing × Answers (emptied 4) awaiting × Answers (emptied 0) leaving
+unfolding val limit halves zeros every sum any bit entry name_bytes name_of blank_name blank_place blank_transfer place_record transfer_record place_at transfer_at balances credits_under_way total awaited name_ok is_well_formed tests_close seen answer
+close_answered = (refl, refl, refl)
 
 pub bad : map is_well_formed bad_books ≡ replicate 12 false
 unfolding val limit halves zeros every sum bit entry name_of blank_name blank_place blank_transfer place_record transfer_record place_at transfer_at balances credits_under_way total name_ok is_well_formed

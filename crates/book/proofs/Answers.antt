@@ -16,12 +16,12 @@ use Rattle.registry.specs.Refusals.{Outcome}
 use Rattle.registry.proofs.Words as profile
 use Rattle.profiles.specs.Balance.{balance_rules}
 use Rattle.book.specs.Sets.{with_bit, entry}
-use Rattle.book.specs.Book.{name_bytes, no_place, no_transfer, place_record, place_at, transfer_record, transfer_at, total, is_some, is_well_formed, open_place, set_record, set_transfer}
-use Rattle.book.specs.Steps.{Step, Open, Act, Begin, Finish, Cancel, credits_in, bytes_in, adds, doing, acts, said, same_bytes, after_check, sheet_sound, sent_to, tests_open, tests_act, tests_begin, seen, answer, effect, next}
+use Rattle.book.specs.Book.{name_bytes, no_place, no_transfer, place_record, place_at, transfer_record, transfer_at, total, is_some, is_well_formed, open_place, close_place, set_record, set_transfer}
+use Rattle.book.specs.Steps.{Step, Open, Act, Begin, Finish, Cancel, Close, credits_in, bytes_in, adds, doing, acts, said, same_bytes, after_check, sheet_sound, sent_to, tests_open, tests_act, tests_begin, seen, answer, effect, next}
 use Rattle.book.specs.Refusals.{book_refusal_of, book_answer_of, BookOutcome}
 use Rattle.book.specs.declared.Book.{Book}
 use Rattle.book.specs.declared.error.BookError.{BookError}
-use Rattle.book.specs.declared.error.BookError.TheVariants.{Profile, UnderWay, OffTheBook, Idle, Itself, TooMuch, OtherUnit, LongName, BadBook}
+use Rattle.book.specs.declared.error.BookError.TheVariants.{Profile, UnderWay, OffTheBook, Idle, Itself, TooMuch, OtherUnit, LongName, BadBook, NotEmpty, Awaited}
 use Rattle.book.proofs.Tables.{bit_other}
 use Rattle.book.proofs.Invariant.{view_there}
 use Rattle.std.specs.Prelude.{Ok, Err}
@@ -38,6 +38,8 @@ refusal_positive TooMuch = omega arith
 refusal_positive OtherUnit = omega arith
 refusal_positive (LongName name) = omega arith
 refusal_positive BadBook = omega arith
+refusal_positive NotEmpty = omega arith
+refusal_positive Awaited = omega arith
 
 -- it is 0 exactly where the outcome is accepted
 pub zero_is_accepted : (o : BookOutcome) → (book_answer_of o).number ≡ 0 → o ≡ Ok tt
@@ -124,6 +126,7 @@ account_of b (Act p o i) = p
 account_of b (Begin f g t i) = f
 account_of b (Finish t) = (transfer_record b t).to
 account_of b (Cancel t) = (transfer_record b t).from
+account_of b (Close p) = p
 
 abbrev pub Names : Step → ℕ → Type 0
 Names (Open p i) q = ⊥
@@ -131,6 +134,7 @@ Names (Act p o i) q = ⊥
 Names (Begin f g t i) q = q ≡ t
 Names (Finish t) q = q ≡ t
 Names (Cancel t) q = q ≡ t
+Names (Close p) q = ⊥
 
 module _ {A : Type 0} (d : A) (n : ℕ) (l : List A) (p : ℕ) (x : A) (q : ℕ) (apart : q ≢ p) where
   set_elsewhere : (entry d n (set l p x) q ≡ entry d n l q) × (get_or (set l p x) q d ≡ get_or l q d)
@@ -150,20 +154,22 @@ SameTransfer b c q = (transfer_at c q ≡ transfer_at b q) × (transfer_record c
 
 module _ (b : Book) (q : ℕ) where
   place_kept : (s : Step) → q ≢ account_of b s → SamePlace b (effect b s) q
-  unfolding place_at place_record open_place set_record set_transfer
+  unfolding place_at place_record open_place close_place set_record set_transfer
   place_kept (Open p i) h = put_elsewhere no_place b.opened b.places p _ q h 1 (omega arith)
   place_kept (Act p o i) h = set_elsewhere no_place b.opened b.places p _ q h
   place_kept (Begin f g t i) h = set_elsewhere no_place b.opened b.places f _ q h
   place_kept (Finish t) h = set_elsewhere no_place b.opened b.places (transfer_record b t).to _ q h
   place_kept (Cancel t) h = set_elsewhere no_place b.opened b.places (transfer_record b t).from _ q h
+  place_kept (Close p) h = put_elsewhere no_place b.opened b.places p _ q h 0 (omega arith)
 
   transfer_kept : (s : Step) → (Names s q → ⊥) → SameTransfer b (effect b s) q
-  unfolding transfer_at transfer_record open_place set_record set_transfer
+  unfolding transfer_at transfer_record open_place close_place set_record set_transfer
   transfer_kept (Open p i) h = (refl, refl)
   transfer_kept (Act p o i) h = (refl, refl)
   transfer_kept (Begin f g t i) h = put_elsewhere no_transfer b.pending b.transfers t _ q h 1 (omega arith)
   transfer_kept (Finish t) h = put_elsewhere no_transfer b.pending b.transfers t _ q h 0 (omega arith)
   transfer_kept (Cancel t) h = put_elsewhere no_transfer b.pending b.transfers t _ q h 0 (omega arith)
+  transfer_kept (Close p) h = (refl, refl)
 
   module _ (s : Step) where
     -- every other place is as it was, closed or not
@@ -185,7 +191,7 @@ module _ (b : Book) (q : ℕ) where
         go (Err r) e = rw e (refl, refl)
 
     pub same_unit : (next b s).unit ≡ b.unit
-    unfolding next open_place set_record set_transfer
+    unfolding next open_place close_place set_record set_transfer
     same_unit = go (answer b s) refl
       where
         kept : (s : Step) → (effect b s).unit ≡ b.unit
@@ -194,6 +200,7 @@ module _ (b : Book) (q : ℕ) where
         kept (Begin f g t i) = refl
         kept (Finish t) = refl
         kept (Cancel t) = refl
+        kept (Close p) = refl
 
         go : (o : BookOutcome) → answer b s ≡ o → (next b s).unit ≡ b.unit
         go (Ok _) e = rw e (kept s)

@@ -7,7 +7,7 @@ use mathlib.Core.List.{List, [], ◌∷◌}
 use Prim.Native.Nat.{ℕ, ◌+◌, ◌≤◌, ◌<◌}
 use lib.Dec.{eqb, leb, ltb}
 use lib.ListN.{length}
-use borrow.Author.Tests.{leb-false, lt-leb, ltb-false, eqb-false, not-false}
+use borrow.Author.Tests.{leb-false, lt-leb, ltb-false, eqb-false, eq-eqb, eqb-true, not-false}
 use Rattle.amount.specs.Numbers.{limit}
 use Rattle.sheet.specs.Fields.{field, subject, unit, balance, amount}
 use Rattle.registry.proofs.Tests.{refused_never}
@@ -16,10 +16,10 @@ use Rattle.registry.specs.Refusals.{Outcome}
 use Rattle.registry.specs.declared.error.ProfileError.TheVariants.{UnknownOperation, Born, Unborn}
 use Rattle.profiles.specs.Balance.{balance_rules}
 use Rattle.book.specs.Book.{is_well_formed}
-use Rattle.book.specs.Steps.{credits_in, bytes_in, doing, acts, refused_if, said, first_refusal, same_bytes, Seen, after_check, sheet_sound, sent_to, tests_open, tests_act, tests_begin, tests_finish, Step, tests_of, seen, answer}
+use Rattle.book.specs.Steps.{credits_in, bytes_in, doing, acts, refused_if, said, first_refusal, same_bytes, Seen, after_check, sheet_sound, sent_to, tests_open, tests_act, tests_begin, tests_finish, tests_close, Step, tests_of, seen, answer}
 use Rattle.book.specs.declared.Book.{Book}
 use Rattle.book.specs.declared.error.BookError.{BookError}
-use Rattle.book.specs.declared.error.BookError.TheVariants.{Profile, UnderWay, OffTheBook, Idle, Itself, TooMuch, OtherUnit, LongName, BadBook}
+use Rattle.book.specs.declared.error.BookError.TheVariants.{Profile, UnderWay, OffTheBook, Idle, Itself, TooMuch, OtherUnit, LongName, BadBook, NotEmpty, Awaited}
 use Rattle.book.specs.Refusals.{BookOutcome}
 use Rattle.std.specs.Prelude.{Ok, Err}
 
@@ -71,11 +71,11 @@ said_so : (o : Outcome) → said o ≡ Ok tt → o ≡ Ok tt
 said_so (Ok _) h = refl
 said_so (Err e) h = refused_never (Profile e) h
 
-or_l : (s t : Bool) → s || t ≡ false → s ≡ false
+pub or_l : (s t : Bool) → s || t ≡ false → s ≡ false
 or_l true t h = h
 or_l false t h = refl
 
-or_r : (s t : Bool) → s || t ≡ false → t ≡ false
+pub or_r : (s t : Bool) → s || t ≡ false → t ≡ false
 or_r true t h = absurd (true≢false h)
 or_r false t h = h
 
@@ -200,3 +200,27 @@ module _ (s : Seen) (t : ℕ) where
   finished f =
       pass (tests_finish s t)
       (met_not (leb 8 t) OffTheBook (lt-leb 8 t f.low), (met_not (not (s.busy t)) Idle (ap not f.moving), tt))
+
+-- ---- close
+
+pub record Closes (s : Seen) (p : ℕ) : Type 0 where
+  pub low : p < 16
+  pub here : (s.place p).there ≡ true
+  pub empty : s.held p ≡ 0
+  pub unawaited : s.awaited p ≡ false
+
+module _ (s : Seen) (p : ℕ) where
+  pub closes : first_refusal (tests_close s p) ≡ Ok tt → Closes s p
+  unfolding tests_close
+  closes h =
+      let t = passed (tests_close s p) h in
+      record {
+        low = leb-false 16 p (unmet (leb 16 p) OffTheBook t.0);
+        here = not-false (s.place p).there (unmet (not (s.place p).there) (Profile Unborn) t.1.0);
+        empty = eqb-true (s.held p) 0 (not-false (eqb (s.held p) 0) (unmet (not (eqb (s.held p) 0)) NotEmpty t.1.1.0));
+        unawaited = unmet (s.awaited p) Awaited t.1.1.1.0;
+      }
+
+  -- 29 is not met
+  pub emptied : s.held p ≡ 0 → refused_if (not (eqb (s.held p) 0)) NotEmpty ≡ Ok tt
+  emptied h = met_not (not (eqb (s.held p) 0)) NotEmpty (ap not (eq-eqb (s.held p) 0 h))

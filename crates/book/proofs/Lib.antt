@@ -12,6 +12,7 @@ pub mod Opens
 pub mod Acts
 pub mod Begins
 pub mod Finishes
+pub mod Closes
 pub mod Whole
 pub mod Steady
 pub mod Orders

@@ -1,4 +1,4 @@
--- The plain book, computed: fed the accepted steps of the two worked sessions, each transfer moved whole at its begin; and where it is not
+-- The plain book, computed: fed the accepted steps of the worked sessions, each transfer moved whole at its begin; and where it is not
 -- refused as the book is.
 use mathlib.Core.Path.{◌≡◌, refl}
 use mathlib.Core.List.{List, [], ◌∷◌, map}
@@ -13,13 +13,13 @@ use Rattle.sheet.specs.Fields.{field}
 use Rattle.registry.specs.Readers.{text_in, bytes_of, marked, parsed, amount_by, amount_of}
 use Rattle.registry.specs.Tests.{state_absent, state_there, above_zero, held_by}
 use Rattle.profiles.specs.Balance.{balance_rules}
-use Rattle.book.specs.Sets.{bit, with_bit, entry}
+use Rattle.book.specs.Sets.{bit, with_bit, entry, any}
 use Rattle.book.specs.Refusals.{book_answer_of}
-use Rattle.book.specs.Book.{name_bytes, name_of, blank_name, blank_place, blank_transfer, blank_book, place_record, transfer_record, place_at, transfer_at, balances, credits_under_way, total, name_ok, is_well_formed, open_place, set_record, set_transfer}
-use Rattle.book.specs.Steps.{Step, Open, Act, Begin, Finish, credits_in, bytes_in, adds, acts, doing, tests_open, tests_act, tests_begin, tests_finish, seen, answer, next, start_answer, start_book}
+use Rattle.book.specs.Book.{name_bytes, name_of, blank_name, blank_place, blank_transfer, blank_book, place_record, transfer_record, place_at, transfer_at, balances, credits_under_way, total, awaited, name_ok, is_well_formed, open_place, close_place, set_record, set_transfer}
+use Rattle.book.specs.Steps.{Step, Open, Act, Begin, Finish, Close, credits_in, bytes_in, adds, acts, doing, tests_open, tests_act, tests_begin, tests_finish, tests_close, seen, answer, next, start_answer, start_book}
 use Rattle.book.specs.Plain.{Plain, empty_plain, plain_total, plain_seen, plain_answer, plain_put, plain_next}
-use Rattle.book.specs.Claim.{accepted_of, rebuilt, plain_run}
-use Rattle.book.proofs.Worked.{unit, opening, asking, five, allowed, session, second, second_left, again, crossed, shows}
+use Rattle.book.specs.Claim.{run, accepted_of, rebuilt, plain_run}
+use Rattle.book.proofs.Worked.{unit, opening, asking, five, allowed, session, second, second_left, again, crossed, leaving, left_alone, shows}
 
 abbrev fed : List Step
 fed = Open 0 (opening 49 53) ∷ Open 1 (opening 50 48) ∷ Begin 0 1 0 five ∷ Finish 0 ∷ []
@@ -60,3 +60,25 @@ pub cancel_worked : (rebuilt (accepted_of (start_book unit) again) ≡ again_fed
     × (map (plain crossed_fed) (0 ∷ 1 ∷ 2 ∷ []) ≡ shows 49 0 ∷ shows 50 4 ∷ none ∷ [])
 unfolding val limit halves order_of all_digits digits_after decimal amount_if read_of compare_of zeros every sum prior entry_at entries_from lookup sound_as field text_in bytes_of marked parsed amount_by amount_of state_absent state_there above_zero held_by balance_rules bit with_bit entry name_bytes name_of blank_name blank_place blank_transfer blank_book place_record transfer_record place_at transfer_at balances credits_under_way total name_ok is_well_formed open_place set_record set_transfer credits_in bytes_in adds acts doing tests_open tests_act tests_begin tests_finish seen answer next start_answer start_book empty_plain plain_total plain_seen plain_answer plain_put plain_next
 cancel_worked = (refl, refl, refl, refl)
+
+-- ---- request 2: the closes and the reopening are fed, the cancelled transfer is not, and the plain book then holds what the book holds
+
+abbrev leaving_fed : List Step
+leaving_fed =
+    Open 0 (opening 49 53) ∷ Open 1 (opening 50 48) ∷ Begin 0 1 0 (asking 51) ∷ Finish 0 ∷ Act 0 18 (asking 50) ∷ Close 0
+    ∷ Open 0 (opening 51 50) ∷ []
+
+pub close_worked : (rebuilt (accepted_of (start_book unit) leaving) ≡ leaving_fed) × (rebuilt (accepted_of (start_book unit) left_alone) ≡ left_alone)
+    × (map (plain leaving_fed) (0 ∷ 1 ∷ 2 ∷ []) ≡ shows 51 2 ∷ shows 50 3 ∷ none ∷ [])
+    × (map (plain left_alone) (0 ∷ 1 ∷ 2 ∷ []) ≡ none ∷ shows 50 5 ∷ none ∷ [])
+unfolding val limit halves order_of all_digits digits_after decimal amount_if read_of compare_of zeros every sum any prior entry_at entries_from lookup sound_as field text_in bytes_of marked parsed amount_by amount_of state_absent state_there above_zero held_by balance_rules bit with_bit entry name_bytes name_of blank_name blank_place blank_transfer blank_book place_record transfer_record place_at transfer_at balances credits_under_way total awaited name_ok is_well_formed open_place close_place set_record set_transfer credits_in bytes_in adds acts doing tests_open tests_act tests_begin tests_finish tests_close seen answer next start_answer start_book empty_plain plain_total plain_seen plain_answer plain_put plain_next
+close_worked = (refl, refl, refl, refl)
+
+-- without 30: `N1` sends all that it holds, and its place is awaited in the book, where the transfer is under way; 22, 6 and 29 are alike
+abbrev sending : List Step
+sending = Open 0 (opening 49 53) ∷ Open 1 (opening 50 48) ∷ Begin 0 1 0 five ∷ []
+
+pub close_answers : (map (λ p. (book_answer_of (plain_answer unit (plain sending) (Close p))).number) (0 ∷ 1 ∷ 2 ∷ 16 ∷ []) ≡ 0 ∷ 29 ∷ 6 ∷ 22 ∷ [])
+    × (map (λ p. (book_answer_of (answer (run (start_book unit) sending) (Close p))).number) (0 ∷ 1 ∷ 2 ∷ 16 ∷ []) ≡ 30 ∷ 30 ∷ 6 ∷ 22 ∷ [])
+unfolding val limit halves order_of all_digits digits_after decimal amount_if read_of compare_of zeros every sum any prior entry_at entries_from lookup sound_as field text_in bytes_of marked parsed amount_by amount_of state_absent state_there above_zero held_by balance_rules bit with_bit entry name_bytes name_of blank_name blank_place blank_transfer blank_book place_record transfer_record place_at transfer_at balances credits_under_way total awaited name_ok is_well_formed open_place close_place set_record set_transfer credits_in bytes_in adds acts doing tests_open tests_act tests_begin tests_finish tests_close seen answer next start_answer start_book empty_plain plain_total plain_seen plain_answer plain_put plain_next
+close_answers = (refl, refl)

@@ -10,7 +10,7 @@ use native.Mathlib.Omega.{arith}
 use Rattle.amount.specs.Numbers.{limit}
 use Rattle.sheet.specs.Walk.{sum}
 use Rattle.book.specs.Book.{place_at, transfer_at, stock_of, carried_by, balances, credits_under_way, total, is_some, transfer_ok, is_well_formed}
-use Rattle.book.specs.Steps.{Step, Cancel, way, answer, effect, next}
+use Rattle.book.specs.Steps.{Step, Cancel, Close, flow, Neither, inflow, outflow, way, answer, effect, next}
 use Rattle.book.specs.Plain.{Plain, stock, plain_total}
 use Rattle.book.specs.Claim.{keep, issued, taken, turned, cancelled, shown, cell_at}
 use Rattle.book.specs.declared.Place.{Place}
@@ -117,11 +117,21 @@ module _ (b : Book) (s : Step) (x : Steady b) where
           })
       go (Err e) h = rw h (record { steady = x; moved = refl })
 
--- document 02, request 1: "the sum over balances and credits under way is unchanged by it". Premise: the arrays and sets are of a book's size
-pub cancel_keeps_the_sum : (b : Book) (t : ℕ) → Shape b → total (next b (Cancel t)) ≡ total b
+-- a step that issues and takes nothing leaves the sum. Premise: the arrays and sets are of a book's size
+neither_moves : (b : Book) (s : Step) → flow s ≡ Neither → Shape b → total (next b s) ≡ total b
 unfolding next
-cancel_keeps_the_sum b t x = go (answer b (Cancel t)) refl
+neither_moves b s n x = go (answer b s) refl
   where
-    go : (o : BookOutcome) → answer b (Cancel t) ≡ o → total (next b (Cancel t)) ≡ total b
-    go (Ok _) h = let k = its_kept b (Cancel t) (record { shape = x; formed = (accepted_tests b (Cancel t) h).0 }) h in rw h (omega (arith, k.moved))
+    go : (o : BookOutcome) → answer b s ≡ o → total (next b s) ≡ total b
+    go (Ok _) h =
+        let k = its_kept b s (record { shape = x; formed = (accepted_tests b s h).0 }) h in
+        rw h (omega (arith, k.moved, ap inflow n, ap outflow n))
     go (Err e) h = rw h
+
+-- document 02, request 1: "the sum over balances and credits under way is unchanged by it"
+pub cancel_keeps_the_sum : (b : Book) (t : ℕ) → Shape b → total (next b (Cancel t)) ≡ total b
+cancel_keeps_the_sum b t = neither_moves b (Cancel t) refl
+
+-- request 2: "A close never strands credits"
+pub close_keeps_the_sum : (b : Book) (p : ℕ) → Shape b → total (next b (Close p)) ≡ total b
+close_keeps_the_sum b p = neither_moves b (Close p) refl

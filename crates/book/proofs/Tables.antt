@@ -1,7 +1,7 @@
 -- Laws of the sets, the tables and the sums of specs/Sets.antt. One notion carries all of them: a function altered at one index.
 use mathlib.Core.Path.{◌≡◌, refl, sym, ap, ◌∙◌, subst}
 use mathlib.Core.Logic.{◌≢◌}
-use mathlib.Core.Bool.{Bool, true, false, cond, false≢true}
+use mathlib.Core.Bool.{Bool, true, false, cond, true≢false, false≢true}
 use mathlib.Core.Option.{some, none}
 use mathlib.Core.List.{List}
 use Prim.Native.Nat.{ℕ, zero, suc, ◌+◌, ◌*◌, ◌/◌, ◌%◌, ◌^◌, ◌≤◌, ◌<◌, zero-le}
@@ -13,7 +13,7 @@ use lib.ListN.{length, get_or, set, length-set}
 use lib.Seq.{get_or-set_same, get_or-set_other}
 use borrow.Author.Tests.{eq-eqb, ne_eqb}
 use Rattle.sheet.specs.Walk.{sum, every}
-use Rattle.book.specs.Sets.{bit, with_bit, entry}
+use Rattle.book.specs.Sets.{bit, with_bit, entry, any}
 
 -- ---- a function altered at one index
 
@@ -174,6 +174,24 @@ every_at f (suc n) h i k = go (every f n) refl (f n) refl (ℕ_discrete i n) (λ
     go true e false w d r = absurd (false≢true (rw (e, w) at h))
     go true e true w (yes z) r = ap f z ∙ w
     go true e true w (no z) r = r e (omega arith)
+
+pub any_none : (f : ℕ → Bool) (n : ℕ) → any f n ≡ false → (i : ℕ) → i < n → f i ≡ false
+unfolding any
+any_none f zero h i k = absurd (not-suc-le-zero k)
+any_none f (suc n) h i k = go (any f n) refl (ℕ_discrete i n) (λ z. any_none f n z i)
+  where
+    go : (x : Bool) → any f n ≡ x → Dec (i ≡ n) → (any f n ≡ false → i < n → f i ≡ false) → f i ≡ false
+    go true e d r = absurd (true≢false (rw e at h))
+    go false e (yes z) r = ap f z ∙ (rw e at h)
+    go false e (no z) r = r e (omega arith)
+
+pub any_some : (f : ℕ → Bool) (n i : ℕ) → i < n → f i ≡ true → any f n ≡ true
+unfolding any
+any_some f n i k h = go (any f n) refl
+  where
+    go : (x : Bool) → any f n ≡ x → any f n ≡ true
+    go true e = e
+    go false e = absurd (false≢true (sym (any_none f n e i k) ∙ h))
 
 -- ---- a table of k entries over a set: P holds of each entry, in use or not
 

@@ -9,16 +9,17 @@ use native.Mathlib.Decide.{dec_lt}
 use native.Mathlib.Omega.{arith}
 use lib.Dec.{eqb}
 use lib.ListN.{get_or}
-use borrow.Author.Tests.{eq-eqb, ne_eqb, eqb-true}
+use borrow.Author.Tests.{eq-eqb, ne_eqb, eqb-true, eqb-false}
 use Rattle.amount.specs.Numbers.{limit}
 use Rattle.sheet.specs.Walk.{sum}
 use Rattle.book.specs.Sets.{bit, entry}
-use Rattle.book.specs.Book.{credits, blank_transfer, no_place, no_transfer, place_record, transfer_record, place_at, transfer_at, stock_of, carried_by, balances, credits_under_way, total, is_some, name_ok, place_ok, transfer_ok, is_well_formed, set_opened, set_pending, set_places, set_transfers, open_place, set_record, set_transfer}
+use Rattle.book.specs.Book.{credits, blank_place, blank_transfer, no_place, no_transfer, place_record, transfer_record, place_at, transfer_at, stock_of, carried_by, balances, credits_under_way, total, names_place, awaited, is_some, name_ok, place_ok, transfer_ok, is_well_formed, set_opened, set_pending, set_places, set_transfers, open_place, close_place, set_record, set_transfer}
 use Rattle.book.specs.declared.Place.{Place}
 use Rattle.book.specs.declared.Transfer.{Transfer}
 use Rattle.book.specs.declared.Book.{Book}
-use Rattle.book.proofs.Tables.{Altered, altered_map, altered_all, bit_high, entry_in, entry_out, entry_put, entry_set, entry_drop, Table, table_put, table_set, sum_same, sum_zero, sum_altered}
-use Rattle.book.proofs.Formed.{Whole, and_l, and_r, well_formed}
+use Rattle.book.proofs.Tables.{Altered, altered_map, altered_all, bit_high, entry_in, entry_out, entry_put, entry_set, entry_drop, Table, table_put, table_set, sum_same, sum_zero, sum_altered, any_none}
+use Rattle.book.proofs.Facts.{or_l, or_r}
+use Rattle.book.proofs.Formed.{Whole, whole, and_l, and_r, well_formed}
 
 -- ---- the shape of a book: lengths, ranges, and all scales 0, in use or not
 
@@ -113,6 +114,15 @@ opened_set b p x s h w =
       places = entry_put no_place b.opened b.places p x (rw s.places.size h);
       others = record { same = refl };
       shape = with_places b _ _ s (table_put s.places p x h w 1 (omega arith));
+    }
+
+pub closed_set : (b : Book) (p : ℕ) → Shape b → p < 16 → PlaceSet b (close_place b p) p none
+unfolding place_at close_place blank_place
+closed_set b p s h =
+    record {
+      places = entry_drop no_place b.opened b.places p blank_place;
+      others = record { same = refl };
+      shape = with_places b _ _ s (table_put s.places p blank_place h (whole blank_place refl) 0 (omega arith));
     }
 
 -- setting the record of an open place
@@ -287,3 +297,41 @@ unfolding coming transfer_at
 none_coming d b h p =
     sum_zero (λ t. toward (d t) p (transfer_at b t)) 8
     (λ t k. ap (toward (d t) p) (entry_out no_transfer b.pending b.transfers t (h t)) ∙ toward_none (d t) p)
+
+-- ---- a place that no transfer under way names
+
+-- a transfer that does not name it has its ends elsewhere
+home_apart : (p : ℕ) (r : Transfer) (k : Bool) → names_place p (some r) ≡ false → home k r ≢ p
+home_apart p r true z = eqb-false r.from p (or_l (eqb r.from p) (eqb r.to p) z)
+home_apart p r false z = eqb-false r.to p (or_r (eqb r.from p) (eqb r.to p) z)
+
+module _ (b : Book) (p : ℕ) (bare : awaited b p ≡ false) where
+  unnamed : (t : ℕ) → t < 8 → names_place p (transfer_at b t) ≡ false
+  unfolding awaited
+  unnamed = any_none (λ t. names_place p (transfer_at b t)) 8 bare
+
+  -- nothing is coming to it
+  pub coming_unnamed : (d : ℕ → Bool) → coming d b p ≡ 0
+  unfolding coming
+  coming_unnamed d = sum_zero (λ t. toward (d t) p (transfer_at b t)) 8 (λ t k. miss (d t) (transfer_at b t) (unnamed t k))
+    where
+      miss : (k : Bool) (o : Option Transfer) → names_place p o ≡ false → toward k p o ≡ 0
+      miss k none z = toward_none k p
+      miss k (some r) z = toward_miss k p r (home_apart p r k z)
+
+  -- it may be closed: no transfer is stranded
+  pub good_close : {c : Book} → PlaceSet b c p none → Good b → Good c
+  good_close {c} e g =
+      record {
+        shape = e.shape;
+        unit = rw (same_unit e.others) g.unit;
+        places = λ q h. altered_all (λ i o. place_ok o ≡ true) e.places refl q (λ d. g.places q h);
+        transfers = λ t h. rw (same_transfers e.others t) (stays (transfer_at b t) (unnamed t h) (g.transfers t h));
+      }
+    where
+      end_stays : (r : Transfer) (k : Bool) → names_place p (some r) ≡ false → transfer_ok b (some r) ≡ true → is_some (place_at c (home k r)) ≡ true
+      end_stays r k z h = rw (e.places.elsewhere (home k r) (home_apart p r k z)) (home_open b r k h)
+
+      stays : (o : Option Transfer) → names_place p o ≡ false → transfer_ok b o ≡ true → transfer_ok c o ≡ true
+      stays none z h = refl
+      stays (some r) z h = transfer_sound c r (end_stays r true z h) (end_stays r false z h)

@@ -17,7 +17,7 @@ use Rattle.registry.specs.declared.error.ProfileError.TheVariants.{Empty}
 use Rattle.sheet.specs.Walk.{every}
 use Rattle.book.specs.Sets.{bit, with_bit, occurrences}
 use Rattle.book.specs.Book.{name_bytes, name_of, blank_place, blank_transfer, blank_book, no_place, no_transfer, place_record, transfer_record, place_at, transfer_at, stock_of, carried_by, balances, credits_under_way, total, name_ok, set_unit, scales_ok, set_record, set_transfer}
-use Rattle.book.specs.Steps.{Step, Open, Act, Begin, Finish, Cancel, Route, Way, Begins, Ends, Stays, way, refused_if, first_refusal, tests_of, seen, answer, effect, next, start_answer, start_book}
+use Rattle.book.specs.Steps.{Step, Open, Act, Begin, Finish, Cancel, Close, Route, Way, Begins, Ends, Stays, way, refused_if, first_refusal, tests_of, seen, answer, effect, next, start_answer, start_book}
 use Rattle.book.specs.Plain.{Holding, Plain, empty_plain, stock, plain_total, plain_answer, plain_effect, plain_next}
 use Rattle.book.specs.Claim.{run, accepted_of, turned, cancelled, left_out, rebuilt, plain_run, PlainAccepts, issued, taken, route, routes_under_way, cell_at, EachOnce, Sound, Settled, Claim}
 use Rattle.book.specs.declared.Name.{Name}
@@ -36,6 +36,7 @@ use Rattle.book.proofs.Opens.{kept_open}
 use Rattle.book.proofs.Acts.{kept_act}
 use Rattle.book.proofs.Begins.{kept_begin}
 use Rattle.book.proofs.Finishes.{kept_finish, kept_cancel, finishable}
+use Rattle.book.proofs.Closes.{kept_close}
 use Rattle.std.specs.Prelude.{Ok, Err}
 
 -- ---- one step: a case for each kind
@@ -50,6 +51,7 @@ kept b l s d v h = go s v (accepted_tests b s h).1
     go (Begin f g n i) w t = kept_begin b l f g n i d w t
     go (Finish n) w t = kept_finish b l n d w t
     go (Cancel n) w t = kept_cancel b l n d w t
+    go (Close p) w t = kept_close b l p d w t
 
 -- ---- every list
 

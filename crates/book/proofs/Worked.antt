@@ -1,8 +1,8 @@
 -- Sessions computed on the definitions, their sheets as bytes: document 01's worked session, one with acts that ends with a transfer under
--- way, and two with cancels. What is expected is worked out by hand from the documents.
+-- way, two with cancels and two with closes. What is expected is worked out by hand from the documents.
 use mathlib.Core.Path.{◌≡◌, refl}
 use mathlib.Core.List.{List, [], ◌∷◌, map}
-use mathlib.Core.Option.{Option, some}
+use mathlib.Core.Option.{Option, some, none}
 use Prim.Native.Nat.{ℕ}
 use lib.ListN.{replicate}
 use Rattle.amount.specs.Numbers.{val, limit, halves, order_of}
@@ -17,10 +17,10 @@ use Rattle.registry.specs.Readers.{text_in, bytes_of, marked, parsed, amount_by,
 use Rattle.registry.specs.Tests.{state_absent, state_there, above_zero, held_by}
 use Rattle.registry.specs.declared.error.Answer.{Answer}
 use Rattle.profiles.specs.Balance.{balance_rules}
-use Rattle.book.specs.Sets.{bit, with_bit, entry}
+use Rattle.book.specs.Sets.{bit, with_bit, entry, any}
 use Rattle.book.specs.Refusals.{book_answer_of}
-use Rattle.book.specs.Book.{whole_amount, name_bytes, name_of, blank_name, blank_place, blank_transfer, blank_book, place_record, transfer_record, place_at, transfer_at, balances, credits_under_way, total, name_ok, is_well_formed, open_place, set_record, set_transfer}
-use Rattle.book.specs.Steps.{Step, Open, Act, Begin, Finish, Cancel, credits_in, bytes_in, adds, acts, doing, tests_open, tests_act, tests_begin, tests_finish, seen, answer, next, start_answer, start_book}
+use Rattle.book.specs.Book.{whole_amount, name_bytes, name_of, blank_name, blank_place, blank_transfer, blank_book, place_record, transfer_record, place_at, transfer_at, balances, credits_under_way, total, awaited, name_ok, is_well_formed, set_opened, open_place, close_place, set_record, set_transfer}
+use Rattle.book.specs.Steps.{Step, Open, Act, Begin, Finish, Cancel, Close, credits_in, bytes_in, adds, acts, doing, tests_open, tests_act, tests_begin, tests_finish, tests_close, seen, answer, next, start_answer, start_book}
 use Rattle.book.specs.Plain.{Holding}
 use Rattle.book.specs.Claim.{run, cell_at}
 use Rattle.book.specs.declared.Place.{Place}
@@ -133,3 +133,34 @@ pub crossed_worked : Worked crossed (done ∷ done ∷ done ∷ done ∷ done �
     (shows 49 0 ∷ shows 50 4 ∷ [])
 unfolding val limit halves order_of all_digits digits_after decimal amount_if read_of compare_of zeros every sum prior entry_at entries_from lookup sound_as field text_in bytes_of marked parsed amount_by amount_of state_absent state_there above_zero held_by balance_rules bit with_bit entry name_bytes name_of blank_name blank_place blank_transfer blank_book place_record transfer_record place_at transfer_at balances credits_under_way total name_ok is_well_formed open_place set_record set_transfer credits_in bytes_in adds acts doing tests_open tests_act tests_begin tests_finish seen answer next start_answer start_book
 crossed_worked = (refl, refl, refl)
+
+-- ---- document 02, request 2. `N1` sends `N2` 3 of its 5 by number 0, and the other 2 by number 1. Its place can't be closed while it holds 2
+-- (29, though a transfer names it too), and neither place while it holds nothing and a transfer is to come from it or to it (30). The first is
+-- finished, and the second would still come back (30): it is cancelled, and `N1` holds 2 (29). These are spent, and place 0 is closed; it can't be
+-- closed again (6), and is opened for `N3` with 2
+
+abbrev pub leaving : List Step
+leaving =
+    Open 0 (opening 49 53) ∷ Open 1 (opening 50 48) ∷ Begin 0 1 0 (asking 51) ∷ Close 0 ∷ Begin 0 1 1 (asking 50) ∷ Close 0 ∷ Close 1
+    ∷ Finish 0 ∷ Close 0 ∷ Cancel 1 ∷ Close 0 ∷ Act 0 18 (asking 50) ∷ Close 0 ∷ Close 0 ∷ Open 0 (opening 51 50) ∷ []
+
+pub leaving_worked : Worked leaving
+    (
+    done ∷ done ∷ done ∷ numbered 29 0 ∷ done ∷ numbered 30 0 ∷ numbered 30 0
+    ∷ done ∷ numbered 30 0 ∷ done ∷ numbered 29 0 ∷ done ∷ done ∷ numbered 6 0 ∷ done ∷ []
+    )
+    (left (account 51 2) (account 50 3) 0 (replicate 8 blank_transfer)) (shows 51 2 ∷ shows 50 3 ∷ [])
+unfolding val limit halves order_of all_digits digits_after decimal amount_if read_of compare_of zeros every sum any prior entry_at entries_from lookup sound_as field text_in bytes_of marked parsed amount_by amount_of state_absent state_there above_zero held_by balance_rules bit with_bit entry name_bytes name_of blank_name blank_place blank_transfer blank_book place_record transfer_record place_at transfer_at balances credits_under_way total awaited name_ok is_well_formed open_place close_place set_record set_transfer credits_in bytes_in adds acts doing tests_open tests_act tests_begin tests_finish tests_close seen answer next start_answer start_book
+leaving_worked = (refl, refl, refl)
+
+-- `N1` sends all that it holds, and leaves: its place is closed, its record zeros
+
+abbrev pub left_alone : List Step
+left_alone = Open 0 (opening 49 53) ∷ Open 1 (opening 50 48) ∷ Begin 0 1 0 five ∷ Finish 0 ∷ Close 0 ∷ []
+
+abbrev pub one_open : Book
+one_open = set_opened (left blank_place (account 50 5) 0 (replicate 8 blank_transfer)) 2
+
+pub left_alone_worked : Worked left_alone (done ∷ done ∷ done ∷ done ∷ done ∷ []) one_open (none ∷ shows 50 5 ∷ [])
+unfolding val limit halves order_of all_digits digits_after decimal amount_if read_of compare_of zeros every sum any prior entry_at entries_from lookup sound_as field text_in bytes_of marked parsed amount_by amount_of state_absent state_there above_zero held_by balance_rules bit with_bit entry name_bytes name_of blank_name blank_place blank_transfer blank_book place_record transfer_record place_at transfer_at balances credits_under_way total awaited name_ok is_well_formed open_place close_place set_record set_transfer credits_in bytes_in tests_open tests_begin tests_finish tests_close seen answer next start_answer start_book
+left_alone_worked = (refl, refl, refl)

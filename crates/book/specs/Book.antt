@@ -1,12 +1,13 @@
--- Document 01, section "Book": what a book holds, its total, the test of refusal 28, and how a book is altered.
-use Rattle.std.specs.Prelude.{Bool, true, false, ◌&&◌, List, [], ◌++◌, ℕ, ◌+◌, ◌-◌, eqb, leb, ltb, length, get_or, set, take, replicate}
+-- Document 01, section "Book": what a book holds, its total, the test of refusal 28, and how a book is altered; and what document 02's
+-- requests ask of it.
+use Rattle.std.specs.Prelude.{Bool, true, false, ◌&&◌, ◌||◌, List, [], ◌++◌, ℕ, ◌+◌, ◌-◌, eqb, leb, ltb, length, get_or, set, take, replicate}
 use Rattle.std.proofs.Math.Option.{Option, some, none}
 use Rattle.amount.specs.Numbers.{val, limit, halves}
 use Rattle.amount.specs.Canonical.{zeros}
 use Rattle.amount.specs.declared.Amount.{Amount}
 use Rattle.registry.specs.Refusals.{zero_amount}
 use Rattle.sheet.specs.Walk.{sum, every}
-use Rattle.book.specs.Sets.{with_bit, entry}
+use Rattle.book.specs.Sets.{with_bit, entry, any}
 use Rattle.book.specs.declared.Name.{Name}
 use Rattle.book.specs.declared.Place.{Place}
 use Rattle.book.specs.declared.Transfer.{Transfer}
@@ -112,6 +113,15 @@ credits_under_way b = sum (λ t. carried_by (transfer_at b t)) 8
 unfoldable pub total : Book → ℕ
 total b = balances b + credits_under_way b
 
+-- ---- document 02, request 2, refusal 30: "if any transfer under way names the place at either end"
+
+abbrev pub names_place : ℕ → Option Transfer → Bool
+names_place p none = false
+names_place p (some r) = eqb r.from p || eqb r.to p
+
+unfoldable pub awaited : Book → ℕ → Bool
+awaited b p = any (λ t. names_place p (transfer_at b t)) 8
+
 -- ---- refusal 28
 
 abbrev pub is_some : {A : Type 0} → Option A → Bool
@@ -147,6 +157,10 @@ is_well_formed b =
 -- place p is open, and its record is x
 unfoldable pub open_place : Book → ℕ → Place → Book
 open_place b p x = set_places (set_opened b (with_bit b.opened p 1)) (set b.places p x)
+
+-- place p is closed, and its record zeros
+unfoldable pub close_place : Book → ℕ → Book
+close_place b p = set_places (set_opened b (with_bit b.opened p 0)) (set b.places p blank_place)
 
 -- the record of place p is x
 unfoldable pub set_record : Book → ℕ → Place → Book

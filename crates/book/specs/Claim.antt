@@ -113,9 +113,10 @@ pub record Sound (b : Book) (a : List Step) : Type 0 where
   -- "the transfers under way, those of the book's set, are the ones that an accepted begin began and no later accepted step, here
   -- finish, has ended; each one's credits are its begin's amount" (document 01); a cancel ends one as well
   pub under_way : (t : ℕ) → route (transfer_at b t) ≡ routes_under_way (λ _. none) a t
-  -- "the finish of any transfer under way would be accepted"
+  -- "the finish of any transfer under way would be accepted". Document 02, request 2: "A close never strands credits: after every step the
+  -- finish and the cancel of any transfer under way would be accepted"
   pub finishable : (t : ℕ) → bit b.pending t ≡ 1 → answer b (Finish t) ≡ Ok tt
-  -- "after every step the finish and the cancel of any transfer under way would be accepted" (document 02, request 2)
+  -- and the cancel
   pub cancellable : (t : ℕ) → bit b.pending t ≡ 1 → answer b (Cancel t) ≡ Ok tt
   -- "Each step tests 28 first; no step from an accepted start meets it" (document 01)
   pub well_formed : is_well_formed b ≡ true
@@ -134,13 +135,13 @@ pub record Demand3 (u : List ℕ) (steps : List Step) : Type 0 where
   -- "at its start and after each of its steps": after the first n of them
   pub throughout : (n : ℕ) → Sound (run (start_book u) (take n steps)) (accepted_of (start_book u) (take n steps))
   -- "fed the accepted steps of the list alone in their order, .. and the plain book accepts every one of them"; of a cancelled transfer
-  -- none (request 1)
+  -- none (request 1), closes and reopenings with them: "Rebuilding the balances from accepted steps covers closes and reopenings" (request 2)
   pub plain_accepts : PlainAccepts u empty_plain (rebuilt (accepted_of (start_book u) steps))
   -- "After the list, in whatever order .."
   pub settles : (order : List ℕ) → EachOnce (run (start_book u) steps) order
       → Settled (run (start_book u) steps) (plain_run u empty_plain (rebuilt (accepted_of (start_book u) steps))) order
 
 -- "For every list of these steps (open, act, begin, finish, refused ones among them) from a fresh book, however transfers overlap", with
--- cancels among them: "A fresh book is one an accepted start gave" (document 01)
+-- cancels and closes among them: "A fresh book is one an accepted start gave" (document 01)
 abbrev pub Claim : Type 0
 Claim = (u : List ℕ) → start_answer u ≡ Ok tt → (steps : List Step) → Demand3 u steps

@@ -6,7 +6,7 @@ use Rattle.sheet.specs.Fields.{Sight, subject, balance, amount}
 use Rattle.book.specs.Places.{place_view, closed_view}
 use Rattle.sheet.specs.Walk.{sum}
 use Rattle.book.specs.Book.{whole_amount}
-use Rattle.book.specs.Steps.{Step, Open, Act, Begin, Finish, Cancel, credits_in, bytes_in, changed, Seen, tests_of, first_refusal, after, Way, Begins, Ends, Stays, way}
+use Rattle.book.specs.Steps.{Step, Open, Act, Begin, Finish, Cancel, Close, credits_in, bytes_in, changed, Seen, tests_of, first_refusal, after, Way, Begins, Ends, Stays, way}
 use Rattle.book.specs.Refusals.{BookOutcome}
 
 -- a subject and what it holds: a place as it is compared
@@ -37,9 +37,17 @@ abbrev pub plain_view : List ℕ → Option Holding → Sight
 plain_view u none = closed_view
 plain_view u (some h) = place_view h.subject u (whole_amount h.balance)
 
--- no transfer number is in use in it: without 21
+-- no transfer number is in use in it, and no transfer names a place: without 21 and 30
 unfoldable pub plain_seen : List ℕ → Plain → Seen
-plain_seen u l = record { unit = u; place = λ p. plain_view u (l p); busy = λ t. false; total = plain_total l }
+plain_seen u l =
+    record {
+      unit = u;
+      place = λ p. plain_view u (l p);
+      held = λ p. worth (l p);
+      busy = λ t. false;
+      awaited = λ p. false;
+      total = plain_total l;
+    }
 
 -- what ends a transfer is never refused
 abbrev pub unless_ends : Way → List BookOutcome → List BookOutcome
@@ -47,7 +55,8 @@ unless_ends (Begins t r) ts = ts
 unless_ends (Ends t back) ts = []
 unless_ends Stays ts = ts
 
--- the others are refused as in the book, by the plain book's own places: without 28 and 21
+-- the others are refused as in the book, by the plain book's own places: without 28, 21 and 30. Document 02, request 2: "in the plain book
+-- this step and later requests' steps do what they do in the book, refused alike except by 28 and 30"
 unfoldable pub plain_answer : List ℕ → Plain → Step → BookOutcome
 plain_answer u l s = first_refusal (unless_ends (way s) (tests_of (plain_seen u l) s))
 
@@ -70,7 +79,7 @@ abbrev pub plain_credits : Plain → ℕ → ℕ → Plain
 plain_credits l p n = plain_put l p (holds (l p) n)
 
 -- open: the place gets the sheet's subject and balance; act: the amount is added or subtracted; begin: the amount leaves `from`'s
--- balance and joins `to`'s at once; finish: nothing. A cancel is not fed to it
+-- balance and joins `to`'s at once; finish: nothing; close: the place holds nothing and has no subject. A cancel is not fed to it
 abbrev pub plain_effect : Plain → Step → Plain
 plain_effect l (Open p i) = plain_put l p (some (record { subject = bytes_in subject i; balance = credits_in balance i }))
 plain_effect l (Act p o i) = plain_put l p (plain_act_on o (credits_in amount i) (l p))
@@ -78,6 +87,7 @@ plain_effect l (Begin f g t i) =
     let m = plain_credits l f (worth (l f) - credits_in amount i) in plain_credits m g (worth (m g) + credits_in amount i)
 plain_effect l (Finish t) = l
 plain_effect l (Cancel t) = l
+plain_effect l (Close p) = plain_put l p none
 
 -- a refused one changes nothing
 unfoldable pub plain_next : List ℕ → Plain → Step → Plain

@@ -1,4 +1,4 @@
--- Document 01, section "Book", and document 02, request 1: the steps, which carry their sheets as bytes. The tests in their order, and what an
+-- Document 01, section "Book", and document 02, requests 1 and 2: the steps, which carry their sheets as bytes. The tests in their order, and what an
 -- accepted step does.
 use Rattle.std.specs.Prelude.{Bool, true, false, not, cond, ◌&&◌, ◌||◌, List, [], ◌∷◌, ℕ, ◌+◌, ◌-◌, eqb, leb, ltb, length, Ok, Err}
 use Rattle.std.proofs.Math.Option.{Option, some, none}
@@ -13,11 +13,11 @@ use Rattle.registry.specs.Refusals.{Outcome}
 use Rattle.registry.specs.declared.error.ProfileError.TheVariants.{UnknownOperation, Born, Unborn, Empty}
 use Rattle.profiles.specs.Balance.{balance_rules}
 use Rattle.book.specs.Places.{place_view, closed_view, put_field}
-use Rattle.book.specs.Book.{credits, whole_amount, name_bytes, name_of, blank_place, blank_book, blank_transfer, place_record, transfer_record, place_at, transfer_at, total, is_some, is_well_formed, set_subject, set_balance, set_unit, open_place, set_record, set_credits, set_transfer}
+use Rattle.book.specs.Book.{credits, whole_amount, name_bytes, name_of, blank_place, blank_book, blank_transfer, place_record, transfer_record, place_at, transfer_at, held_in, total, awaited, is_some, is_well_formed, set_subject, set_balance, set_unit, open_place, close_place, set_record, set_credits, set_transfer}
 use Rattle.book.specs.declared.Place.{Place}
 use Rattle.book.specs.declared.Book.{Book}
 use Rattle.book.specs.declared.error.BookError.{BookError}
-use Rattle.book.specs.declared.error.BookError.TheVariants.{Profile, UnderWay, OffTheBook, Idle, Itself, TooMuch, OtherUnit, LongName, BadBook}
+use Rattle.book.specs.declared.error.BookError.TheVariants.{Profile, UnderWay, OffTheBook, Idle, Itself, TooMuch, OtherUnit, LongName, BadBook, NotEmpty, Awaited}
 use Rattle.book.specs.Refusals.{BookOutcome}
 
 pub data Step : Type 0 where
@@ -26,6 +26,7 @@ pub data Step : Type 0 where
   Begin : (from to transfer : ℕ) (sheet : List ℕ) → Step
   Finish : (transfer : ℕ) → Step
   Cancel : (transfer : ℕ) → Step
+  Close : (place : ℕ) → Step
 
 -- ---- what a sheet says
 
@@ -78,12 +79,14 @@ same_bytes [] (y ∷ ys) = false
 same_bytes (x ∷ xs) [] = false
 same_bytes (x ∷ xs) (y ∷ ys) = eqb x y && same_bytes xs ys
 
--- what the tests go by, of a book or of the plain book: the unit, the places as balance states, which transfer numbers are in
--- use, and the total
+-- what the tests go by, of a book or of the plain book: the unit, the places as balance states and what they hold, which transfer numbers
+-- are in use, which places the transfers under way name, and the total
 pub record Seen : Type 0 where
   pub unit : List ℕ
   pub place : ℕ → Sight
+  pub held : ℕ → ℕ
   pub busy : ℕ → Bool
+  pub awaited : ℕ → Bool
   pub total : ℕ
 
 -- 2
@@ -141,6 +144,16 @@ tests_begin s f g t i =
 unfoldable pub tests_finish : Seen → ℕ → List BookOutcome
 tests_finish s t = refused_if (leb 8 t) OffTheBook ∷ refused_if (not (s.busy t)) Idle ∷ []
 
+-- close. Request 2: "after 22 and 6, 29 "not empty" if the balance isn't zero; then 30 "awaited" if any transfer under way names the place
+-- at either end"
+unfoldable pub tests_close : Seen → ℕ → List BookOutcome
+tests_close s p =
+    refused_if (leb 16 p) OffTheBook
+    ∷ refused_if (not (s.place p).there) (Profile Unborn)
+    ∷ refused_if (not (eqb (s.held p) 0)) NotEmpty
+    ∷ refused_if (s.awaited p) Awaited
+    ∷ []
+
 -- the tests of a step
 abbrev pub tests_of : Seen → Step → List BookOutcome
 tests_of s (Open p i) = tests_open s p i
@@ -148,6 +161,7 @@ tests_of s (Act p o i) = tests_act s p o i
 tests_of s (Begin f g t i) = tests_begin s f g t i
 tests_of s (Finish t) = tests_finish s t
 tests_of s (Cancel t) = tests_finish s t
+tests_of s (Close p) = tests_close s p
 
 -- ---- the book
 
@@ -161,7 +175,9 @@ seen b =
     record {
       unit = name_bytes b.unit;
       place = λ p. view_of (name_bytes b.unit) (place_at b p);
+      held = λ p. held_in (place_at b p);
       busy = λ t. is_some (transfer_at b t);
+      awaited = λ p. awaited b p;
       total = total b;
     }
 
@@ -189,7 +205,7 @@ abbrev pub landed : Book → ℕ → ℕ → Book
 landed b t p = set_transfer (set_credits b p (raised (held_at b p) (credits (transfer_record b t).amount))) t 0 blank_transfer
 
 -- THE EFFECT of an accepted step. Request 1: "cancel a transfer under way and see its credits back at the source"; it "frees the number, its
--- record zeros, as finish does"
+-- record zeros, as finish does". Request 2: close "makes its record zeros, and the place may be opened again"
 abbrev pub effect : Book → Step → Book
 effect b (Open p i) =
     open_place b p (set_balance (set_subject blank_place (name_of (bytes_in subject i))) (whole_amount (credits_in balance i)))
@@ -199,6 +215,7 @@ effect b (Begin f g t i) =
     (record { from = f; to = g; amount = whole_amount (credits_in amount i) })
 effect b (Finish t) = landed b t (transfer_record b t).to
 effect b (Cancel t) = landed b t (transfer_record b t).from
+effect b (Close p) = close_place b p
 
 -- a refused step changes nothing
 abbrev pub after : {A : Type 0} → BookOutcome → A → A → A
@@ -234,6 +251,7 @@ flow (Act p o i) = act_flow (doing o) (credits_in amount i)
 flow (Begin f g t i) = Neither
 flow (Finish t) = Neither
 flow (Cancel t) = Neither
+flow (Close p) = Neither
 
 abbrev pub inflow : Flow → ℕ
 inflow (Issues n) = n
@@ -271,3 +289,4 @@ way (Act p o i) = Stays
 way (Begin f g t i) = Begins t (record { from = f; to = g; credits = credits_in amount i })
 way (Finish t) = Ends t false
 way (Cancel t) = Ends t true
+way (Close p) = Stays

@@ -1,11 +1,11 @@
-// Why a step of the book refuses: a profile's refusal, or one of document 01's 21 to 28.
+// Why a step of the book refuses: a profile's refusal, or one of document 01's 21 to 28 and document 02's.
 ghost use Rattle.std.specs.Prelude.{◌≡◌};
 ghost use Rattle.book.specs.Refusals.{book_refusal_of, book_answer_of};
 ghost use Rattle.book.specs.declared.error.BookError.TheVariants.{Profile};
 
 use registry::error::{Answer, ProfileError};
 
-// Document 01's number of each, which C gets.
+// The number of each, which C gets.
 pub const UNDER_WAY: u8 = 21;
 
 pub const OFF_THE_BOOK: u8 = 22;
@@ -22,6 +22,10 @@ pub const LONG_NAME: u8 = 27;
 
 pub const BAD_BOOK: u8 = 28;
 
+pub const NOT_EMPTY: u8 = 29;
+
+pub const AWAITED: u8 = 30;
+
 #[derive(Clone, Copy)]
 pub enum BookError {
     Profile(ProfileError),
@@ -33,6 +37,8 @@ pub enum BookError {
     OtherUnit,
     LongName(u8),
     BadBook,
+    NotEmpty,
+    Awaited,
 }
 
 impl From<ProfileError> for BookError {
@@ -58,6 +64,8 @@ impl From<BookError> for Answer {
             BookError::OtherUnit => Answer::numbered(OTHER_UNIT, 0),
             BookError::LongName(name) => Answer::numbered(LONG_NAME, name),
             BookError::BadBook => Answer::numbered(BAD_BOOK, 0),
+            BookError::NotEmpty => Answer::numbered(NOT_EMPTY, 0),
+            BookError::Awaited => Answer::numbered(AWAITED, 0),
         }
     }
 }

@@ -5,7 +5,7 @@
 ghost use Rattle.std.specs.Prelude.{◌<◌, IfSome, length};
 
 use amount::{Amount, Uint128};
-use book::error::BAD_BOOK;
+use book::error::{AWAITED, BAD_BOOK};
 use book::{Book, Name, Place, TRANSFERS, Transfer};
 use registry::error::{Answer, INSUFFICIENT_QUANTITY};
 use session::{Run, running};
@@ -18,7 +18,7 @@ use tally::{Judge, Row, Tally};
 const READ_BYTES: u64 = 1572864;
 
 // An answer's number is 0 or a refusal's.
-const NUMBERS: usize = BAD_BOOK as usize + 1;
+const NUMBERS: usize = AWAITED as usize + 1;
 
 // The kinds of steps, bytes as in a session.
 const OPEN: u8 = 1;
@@ -30,6 +30,8 @@ const BEGIN: u8 = 3;
 const FINISH: u8 = 4;
 
 const CANCEL: u8 = 5;
+
+const CLOSE: u8 = 6;
 
 // ---- records
 
@@ -58,7 +60,7 @@ fn kind_of(byte: u8) -> Option<Kind> {
 fn answer_bytes(number: u8) -> Option<usize> {
     match number {
         INSUFFICIENT_QUANTITY => Some(34),
-        0..=BAD_BOOK => Some(2),
+        0..=AWAITED => Some(2),
         _ => None,
     }
 }
@@ -107,6 +109,7 @@ fn step_of(head: &[u8; 6]) -> Option<Step> {
         BEGIN => Some(Step::Begin(a, b, t)),
         FINISH => Some(Step::Finish(t)),
         CANCEL => Some(Step::Cancel(t)),
+        CLOSE => Some(Step::Close(a)),
         _ => None,
     }
 }

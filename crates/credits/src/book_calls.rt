@@ -1,7 +1,7 @@
 // The book behind C: a book is lent and one step is done in it. Each entry is one call of `lent`.
 ghost use Rattle.std.specs.Prelude.{◌≡◌};
 ghost use Rattle.book.specs.Refusals.{book_answer_of};
-ghost use Rattle.book.specs.Steps.{Open, Act, Begin, Finish, Cancel, answer, next, start_answer, start_book};
+ghost use Rattle.book.specs.Steps.{Open, Act, Begin, Finish, Cancel, Close, answer, next, start_answer, start_book};
 
 use book::Book;
 use registry::error::Answer;
@@ -64,4 +64,11 @@ pub fn credits_book_cancel(book: &mut Book, transfer: u8) -> Answer
         × (book.new ≡ next book.old (Cancel transfer)) }
 {
     lent::free_in(book, Step::Cancel(transfer))
+}
+
+pub fn credits_book_close(book: &mut Book, place: u8) -> Answer
+    ensures { (result ≡ book_answer_of (answer book.old (Close place)))
+        × (book.new ≡ next book.old (Close place)) }
+{
+    lent::free_in(book, Step::Close(place))
 }

@@ -1,7 +1,7 @@
 // The exports of book_calls.
 ghost use Rattle.std.specs.Prelude.{◌≡◌};
 ghost use Rattle.book.specs.Refusals.{book_answer_of};
-ghost use Rattle.book.specs.Steps.{Open, Act, Begin, Finish, Cancel, answer, next, start_answer, start_book};
+ghost use Rattle.book.specs.Steps.{Open, Act, Begin, Finish, Cancel, Close, answer, next, start_answer, start_book};
 
 use book::Book;
 use credits::book_calls::Started;
@@ -70,4 +70,12 @@ pub extern "C" fn credits_book_cancel(book: &mut Book, transfer: u8) -> Answer
         × (book.new ≡ next book.old (Cancel transfer)) }
 {
     credits::book_calls::credits_book_cancel(book, transfer)
+}
+
+#[unsafe(no_mangle)]
+pub extern "C" fn credits_book_close(book: &mut Book, place: u8) -> Answer
+    ensures { (result ≡ book_answer_of (answer book.old (Close place)))
+        × (book.new ≡ next book.old (Close place)) }
+{
+    credits::book_calls::credits_book_close(book, place)
 }

@@ -1,6 +1,6 @@
 -- What a step reads of a lent book is what it looks at, what it stores there is the book after it, and the total that it leaves is that book's.
 use mathlib.Core.Path.{◌≡◌, refl, sym, ap, ◌∙◌}
-use mathlib.Core.Bool.{true}
+use mathlib.Core.Bool.{Bool, true}
 use mathlib.Core.List.{List, [], ◌∷◌}
 use Prim.Native.Nat.{ℕ, ◌+◌, ◌^◌, ◌<◌, ◌≤◌}
 use native.Mathlib.Omega.{arith}
@@ -21,7 +21,7 @@ use Rattle.book.proofs.Steady.{step_steady}
 use Rattle.audit.specs.Totals.{total_of}
 use Rattle.steps.proofs.Looks.{seen_at, at_spot, shows_at}
 use Rattle.steps.proofs.Turned.{place_back, transfer_back}
-use Rattle.steps.specs.Turn.{with_sheet, transfer_of, place_of, destination_of, subject_after, outcome_of, stored_at, stored, Shows, Turned}
+use Rattle.steps.specs.Turn.{with_sheet, transfer_of, place_of, destination_of, awaited_by, subject_after, outcome_of, stored_at, stored, Shows, Turned}
 use Rattle.steps.specs.declared.step.Step.{Step as Kind}
 use Rattle.steps.specs.declared.step.View.{View}
 
@@ -35,8 +35,9 @@ pub record Sized (b : Book) : Type 0 where
 -- ---- what a step reads, at transfer k and place i, and what it stores there
 
 module _ (b : Book) (s : Kind) {k i : ℕ} (e-k : k ≡ transfer_of s) (e-i : i ≡ place_of s (transfer_record b k).from (transfer_record b k).to) where
-  pub shown : {j n : ℕ} {t : Option Uint128} → j ≡ destination_of s → n ≡ length (name_bytes (place_record b j).subject) → t ≡ total_of b → Shows b s (seen_at b k i t n)
-  shown {j} {n} {t} e-j e-n e-t = shows_at b s e-k e-i e-j t n e-n e-t
+  pub shown : {j n : ℕ} {t : Option Uint128} {a : Bool} → j ≡ destination_of s → n ≡ length (name_bytes (place_record b j).subject) → t ≡ total_of b
+      → a ≡ awaited_by s b → Shows b s (seen_at b k i t n a)
+  shown {j} {n} {t} {a} e-j e-n e-t e-a = shows_at b s e-k e-i e-j t n a e-n e-t e-a
 
   pub stored_so : (l : List ℕ) (x : View) {u : Name} → u ≡ subject_after s (place_record b i).subject l → stored_at b i k u x ≡ stored b s l (Ok x)
   stored_so l x {u} e =

@@ -6,7 +6,7 @@ ghost use Rattle.std.specs.Prelude.{◌≡◌, Some, [], IfOk};
 ghost use Rattle.audit.specs.Totals.{total_of};
 ghost use Rattle.book.specs.Refusals.{book_answer_of};
 ghost use Rattle.book.specs.Steps.{answer, next};
-ghost use Rattle.steps.specs.Turn.{outcome_of, with_sheet};
+ghost use Rattle.steps.specs.Turn.{outcome_of, with_sheet, awaited_by};
 
 use amount::Uint128;
 use book::Book;
@@ -46,6 +46,7 @@ pub fn turn_in(
         × (book.new ≡ next book.old (with_sheet step sheet.now))
         × IfOk result (λ n. n ≡ total_of book.new) }
 {
+    let awaited = is_awaited(book, step);
     let transfer = &mut book.transfers[step.transfer() as usize];
     let subject = book.places[step.destination() as usize].subject;
     let named = subject.as_bytes().len() as u8;
@@ -56,6 +57,7 @@ pub fn turn_in(
         total,
         opened: book.opened,
         pending: book.pending,
+        awaited,
         from: transfer.from,
         to: transfer.to,
         named,
@@ -69,4 +71,18 @@ pub fn turn_in(
     book.opened = left.opened;
     book.pending = left.pending;
     Ok(left.total)
+}
+
+// Whether a transfer under way names the place that the step closes; another step does not ask.
+fn is_awaited(book: &Book, step: Step) -> bool
+    ensures { result ≡ awaited_by step book.now }
+{
+    match step {
+        Step::Close(place) => audit::is_awaited(book, place),
+        Step::Open(_)
+        | Step::Act(_, _)
+        | Step::Begin(_, _, _)
+        | Step::Finish(_)
+        | Step::Cancel(_) => false,
+    }
 }

@@ -1,5 +1,5 @@
--- The listings of the two worked sessions, computed from their bytes: the eight lines of document 01's section "Session and listing", and ten
--- with a transfer under way, worked out by hand.
+-- The listings of the worked sessions, computed from their bytes: the eight lines of document 01's section "Session and listing", ten with a
+-- transfer under way, and seven with a closed place, which has no line; the last two worked out by hand.
 use mathlib.Core.Path.{◌≡◌, refl}
 use mathlib.Core.List.{List, [], ◌∷◌, ◌++◌}
 use Prim.Native.Nat.{ℕ}
@@ -9,8 +9,8 @@ use Rattle.sheet.specs.Walk.{sum}
 use Rattle.book.specs.Sets.{bit, entry}
 use Rattle.book.specs.Book.{name_of, blank_name, blank_place, blank_transfer, place_at, transfer_at, balances, credits_under_way, total}
 use Rattle.book.specs.declared.Book.{Book}
-use Rattle.book.proofs.Worked.{session_left, second_left}
-use Rattle.session.proofs.Worked.{session, worked_good, worked_answers, worked_book, second, second_good, second_answers, second_book}
+use Rattle.book.proofs.Worked.{session_left, second_left, one_open}
+use Rattle.session.proofs.Worked.{session, worked_good, worked_answers, worked_book, second, second_good, second_answers, second_book, left_alone, left_alone_good, left_alone_answers, left_alone_book}
 use Rattle.report.specs.Listing.{step_line, step_lines, place_line, place_lines, members, counts_text, last_line, listing_text, listing_of}
 
 -- ---- document 01's
@@ -59,15 +59,35 @@ abbrev second_last : List ℕ
 second_last =
     104 ∷ 101 ∷ 108 ∷ 100 ∷ 32 ∷ 50 ∷ 32 ∷ 119 ∷ 97 ∷ 121 ∷ 32 ∷ 49 ∷ 32 ∷ 116 ∷ 111 ∷ 116 ∷ 97 ∷ 108 ∷ 32 ∷ 49 ∷ 56 ∷ 10 ∷ []
 
+-- ---- document 02, request 2: "The listing shows open places only". `N1` has left
+
+-- 1 0 0, 2 0 0, 3 0 0, 4 0 0, 5 0 0
+abbrev left_alone_lines : List ℕ
+left_alone_lines =
+    49 ∷ 32 ∷ 48 ∷ 32 ∷ 48 ∷ 10
+    ∷ 50 ∷ 32 ∷ 48 ∷ 32 ∷ 48 ∷ 10
+    ∷ 51 ∷ 32 ∷ 48 ∷ 32 ∷ 48 ∷ 10
+    ∷ 52 ∷ 32 ∷ 48 ∷ 32 ∷ 48 ∷ 10
+    ∷ 53 ∷ 32 ∷ 48 ∷ 32 ∷ 48 ∷ 10 ∷ []
+
+-- place 1 5
+abbrev left_alone_places : List ℕ
+left_alone_places = 112 ∷ 108 ∷ 97 ∷ 99 ∷ 101 ∷ 32 ∷ 49 ∷ 32 ∷ 53 ∷ 10 ∷ []
+
+-- held 1 way 0 total 5
+abbrev left_alone_last : List ℕ
+left_alone_last =
+    104 ∷ 101 ∷ 108 ∷ 100 ∷ 32 ∷ 49 ∷ 32 ∷ 119 ∷ 97 ∷ 121 ∷ 32 ∷ 48 ∷ 32 ∷ 116 ∷ 111 ∷ 116 ∷ 97 ∷ 108 ∷ 32 ∷ 53 ∷ 10 ∷ []
+
 -- ---- computed
 
 -- what is printed of a book
 abbrev Prints : Book → List ℕ → List ℕ → Type 0
 Prints b places last = (place_lines b 16 ≡ places) × (last_line b ≡ last)
 
-prints : Prints session_left places last × Prints second_left second_places second_last
+prints : Prints session_left places last × Prints second_left second_places second_last × Prints one_open left_alone_places left_alone_last
 unfolding val halves zeros sum bit entry name_of blank_name blank_place blank_transfer place_at transfer_at balances credits_under_way total place_line place_lines members counts_text last_line whole_text width_of width_up_to last_digits strip decimal_text canonical_text
-prints = ((refl, refl), (refl, refl))
+prints = ((refl, refl), (refl, refl), (refl, refl))
 
 pub worked_listing : listing_of session ≡ steps ++ places ++ last
 unfolding listing_of listing_text step_line step_lines whole_text width_of width_up_to last_digits
@@ -76,3 +96,7 @@ worked_listing = rw (worked_good, worked_answers, worked_book, prints.0.0, print
 pub second_listing : listing_of second ≡ second_steps ++ second_places ++ second_last
 unfolding listing_of listing_text step_line step_lines whole_text width_of width_up_to last_digits
 second_listing = rw (second_good, second_answers, second_book, prints.1.0, prints.1.1)
+
+pub left_alone_listing : listing_of left_alone ≡ left_alone_lines ++ left_alone_places ++ left_alone_last
+unfolding listing_of listing_text step_line step_lines whole_text width_of width_up_to last_digits
+left_alone_listing = rw (left_alone_good, left_alone_answers, left_alone_book, prints.2.0, prints.2.1)

@@ -2,7 +2,7 @@
 -- a step.
 use mathlib.Core.Path.{◌≡◌, refl, sym, ap, ◌∙◌}
 use mathlib.Core.Logic.{⊎_elim}
-use mathlib.Core.Bool.{Bool, true, false, cond, ◌&&◌, false≢true}
+use mathlib.Core.Bool.{Bool, true, false, cond, false≢true}
 use mathlib.Core.Option.{Option, some, none}
 use mathlib.Core.List.{List, [], ◌∷◌, ◌++◌}
 use Prim.Native.Nat.{ℕ, zero, suc, ◌+◌, ◌-◌, ◌≤◌, ◌<◌}
@@ -13,7 +13,7 @@ use lib.ListN.{length, get_or, length-append, get_or-append}
 use borrow.Author.Tests.{ne_eqb}
 use Rattle.sheet.proofs.Tables.{and_right, all_at}
 use Rattle.book.specs.Book.{is_some}
-use Rattle.book.specs.Steps.{Step, Open, Act, Begin, Finish, Cancel, next}
+use Rattle.book.specs.Steps.{Step, next}
 use Rattle.book.specs.Claim.{run}
 use Rattle.book.specs.declared.Book.{Book}
 use Rattle.session.specs.Session.{line_count, line_at, line_body_at, line_body, step_fits, line_fits_at, good, step_of, step_at, listed, steps_from, steps_of, said_by, Stand, stand_after, answers_from, start_of, answers_of, book_of, no_answer}
@@ -28,23 +28,21 @@ use Rattle.session.proofs.Walking.{good_count, good_fits}
 
 -- ---- every later entry of a good session is a step
 
+-- a kind that fits has a step, and so has what follows it
+arm : (t fits more : Bool) (x : Step) (y : Option Step) → (more ≡ true → is_some y ≡ true) → cond t fits more ≡ true → is_some (cond t (some x) y) ≡ true
+arm true fits more x y k h = refl
+arm false fits more x y k h = k h
+
 -- an entry that fits is one
 fits_step : (l : Line) (i : List ℕ) → step_fits l ≡ true → is_some (step_of l i) ≡ true
 unfolding step_of
-fits_step l i h = go (eqb l.kind 1) (eqb l.kind 2) (eqb l.kind 3) (eqb l.kind 4) (eqb l.kind 5) h
-  where
-    alone : Bool
-    alone = eqb l.a 0 && eqb l.b 0 && eqb l.len 0
-
-    go : (t₁ t₂ t₃ t₄ t₅ : Bool)
-        → cond t₁ (eqb l.b 0 && eqb l.t 0) (cond t₂ (eqb l.t 0) (cond t₃ true (cond t₄ alone (cond t₅ alone false)))) ≡ true
-        → is_some (cond t₁ (some (Open l.a i)) (cond t₂ (some (Act l.a l.b i)) (cond t₃ (some (Begin l.a l.b l.t i)) (cond t₄ (some (Finish l.t)) (cond t₅ (some (Cancel l.t)) none))))) ≡ true
-    go true t₂ t₃ t₄ t₅ e = refl
-    go false true t₃ t₄ t₅ e = refl
-    go false false true t₄ t₅ e = refl
-    go false false false true t₅ e = refl
-    go false false false false true e = refl
-    go false false false false false e = absurd (false≢true e)
+fits_step l i =
+    arm (eqb l.kind 1) _ _ _ _
+    (arm (eqb l.kind 2) _ _ _ _
+    (arm (eqb l.kind 3) _ _ _ _
+    (arm (eqb l.kind 4) _ _ _ _
+    (arm (eqb l.kind 5) _ _ _ _
+    (arm (eqb l.kind 6) _ _ _ _ (λ e. absurd (false≢true e)))))))
 
 pub later_step : (s : List ℕ) → good s ≡ true → (k : ℕ) → 1 ≤ k → k < line_count s → is_some (step_at s k) ≡ true
 later_step s g k h l =

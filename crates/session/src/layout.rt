@@ -44,7 +44,8 @@ pub(crate) fn body(s: &[u8], l: Line) -> &[u8]
     sheet::part(s, l.offset as usize, l.len as usize)
 }
 
-// The step of an entry, without its body; another kind is none. The kinds are document 01's, as they stand in a session.
+// The step of an entry, without its body; another kind is none. The kinds are those of documents 01 and 02, as they stand in a session.
+#[tactic(auto, unfolding(crate::specs::Session::step_of))]
 pub(crate) fn step_of(l: Line) -> Option<Step>
     ensures { (i : List ℕ) → entry_step result i ≡ step_of l i }
 {
@@ -55,6 +56,7 @@ pub(crate) fn step_of(l: Line) -> Option<Step>
         3 => Some(Step::Begin(l.a, l.b, l.t)),
         4 => Some(Step::Finish(l.t)),
         5 => Some(Step::Cancel(l.t)),
+        6 => Some(Step::Close(l.a)),
         _ => None,
     }
 }
@@ -106,6 +108,13 @@ fn end_fits(l: Line) -> bool
     l.a == 0 && l.b == 0 && l.len == 0
 }
 
+// A close uses a alone, and has no body.
+fn close_fits(l: Line) -> bool
+    ensures { result ≡ eqb l.b 0 && eqb l.t 0 && eqb l.len 0 }
+{
+    open_fits(l) && l.len == 0
+}
+
 // A later entry; a second start is none of the steps.
 fn step_fits(l: Line) -> bool
     ensures { result ≡ step_fits l }
@@ -116,6 +125,7 @@ fn step_fits(l: Line) -> bool
         2 => l.t == 0,
         3 => true,
         4 | 5 => end_fits(l),
+        6 => close_fits(l),
         _ => false,
     }
 }

@@ -14,11 +14,11 @@ use Rattle.amount.proofs.Halves.{wrapped_sum}
 use Rattle.registry.specs.Refusals.{zero_amount}
 use Rattle.sheet.specs.Fields.{subject, balance, amount}
 use Rattle.book.specs.Sets.{with_bit}
-use Rattle.book.specs.Book.{place_record, transfer_record, credits, total, is_well_formed, blank_transfer, open_place, set_record, set_transfer}
-use Rattle.book.specs.Steps.{Open, Act, Begin, credits_in, bytes_in, adds, doing, changed, refused_if, after_check, Seen, seen, tests_of, tests_finish, answer, landed, effect, held_at, flow, Neither, issues, takes}
+use Rattle.book.specs.Book.{place_record, transfer_record, credits, total, is_well_formed, blank_place, blank_transfer, open_place, close_place, set_record, set_transfer}
+use Rattle.book.specs.Steps.{Open, Act, Begin, Close, credits_in, bytes_in, adds, doing, changed, refused_if, after_check, Seen, seen, tests_of, tests_finish, answer, landed, effect, held_at, flow, Neither, issues, takes}
 use Rattle.book.specs.declared.Book.{Book}
 use Rattle.book.specs.declared.error.BookError.TheVariants.{TooMuch}
-use Rattle.book.proofs.Facts.{acts_so, begins, Opens, opens, accepted_tests}
+use Rattle.book.proofs.Facts.{acts_so, begins, Opens, opens, closes, accepted_tests}
 use Rattle.book.proofs.Formed.{formed}
 use Rattle.book.proofs.Views.{home}
 use Rattle.book.proofs.Endings.{ending as book_ending, end, Ended, ended, lands}
@@ -37,17 +37,17 @@ use Rattle.std.specs.Prelude.{Option, Ok}
 -- what is held is h, and the total n
 abbrev pub holding : View → Uint128 → Option Uint128 → View
 holding x h n =
-    record { held = h; carried = x.carried; total = n; opened = x.opened; pending = x.pending; from = x.from; to = x.to; named = x.named }
+    record { held = h; carried = x.carried; total = n; opened = x.opened; pending = x.pending; awaited = x.awaited; from = x.from; to = x.to; named = x.named }
 
--- and a place is open
+-- and the open places are k
 abbrev pub opening : View → Uint128 → Option Uint128 → ℕ → View
 opening x h n k =
-    record { held = h; carried = x.carried; total = n; opened = k; pending = x.pending; from = x.from; to = x.to; named = x.named }
+    record { held = h; carried = x.carried; total = n; opened = k; pending = x.pending; awaited = x.awaited; from = x.from; to = x.to; named = x.named }
 
 -- what is held is h, and the transfer goes from f to g with c
 abbrev pub moving : View → Uint128 → Uint128 → ℕ → ℕ → ℕ → View
 moving x h c f g k =
-    record { held = h; carried = c; total = x.total; opened = x.opened; pending = k; from = f; to = g; named = x.named }
+    record { held = h; carried = c; total = x.total; opened = x.opened; pending = k; awaited = x.awaited; from = f; to = g; named = x.named }
 
 -- ---- finish and cancel
 
@@ -176,3 +176,15 @@ module _ (b : Book) (f g t : ℕ) (i : List ℕ) (h : answer b (Begin f g t i) �
       let there : f % 16 ≡ f = mod-eq_of_lt facts.low_from in
       stored_whole b _ _ _ _ (accepted_tests b (Begin f g t i) h).0 (place_low (Code.Begin f g t) 0 0 refl) (transfer_low (Code.Begin f g t) refl)
       ∙ rw (e, d, q, v.opened, v.pending, same, there)
+
+-- ---- close
+
+module _ (b : Book) (p : ℕ) (i : List ℕ) (h : answer b (Close p) ≡ Ok tt) where
+  pub stored_close : (x : View) (k : ℕ) → Shows b (Code.Close p) x → k ≡ with_bit x.opened (p % 16) 0
+      → stored b (Code.Close p) i (Ok (opening x zero_amount.mantissa x.total k)) ≡ effect b (Close p)
+  unfolding close_place blank_place
+  stored_close x k v q =
+      let sound = (accepted_tests b (Close p) h).0 in
+      let same : p % 16 ≡ p = mod-eq_of_lt (closes (seen b) p (accepted_tests b (Close p) h).1).low in
+      stored_whole b _ _ _ _ sound (place_low (Code.Close p) 0 0 refl) (transfer_low (Code.Close p) refl)
+      ∙ rw (carried_back v sound, q, v.opened, v.pending, same)

@@ -9,9 +9,9 @@ use Rattle.registry.specs.Refusals.{Outcome}
 use Rattle.registry.specs.Readers.{text_in}
 use Rattle.registry.specs.Tests.{among}
 use Rattle.registry.specs.declared.error.ProfileError.TheVariants.{InsufficientQuantity}
-use Rattle.book.specs.Book.{name_bytes, name_of, blank_name, place_record, transfer_record, total}
+use Rattle.book.specs.Book.{name_bytes, name_of, blank_name, place_record, transfer_record, total, awaited}
 use Rattle.book.specs.Refusals.{BookOutcome}
-use Rattle.book.specs.Steps.{Step, Open, Act, Begin, Finish, Cancel, bytes_in, answer, next, issues, takes}
+use Rattle.book.specs.Steps.{Step, Open, Act, Begin, Finish, Cancel, Close, bytes_in, answer, next, issues, takes}
 use Rattle.book.specs.declared.Book.{Book}
 use Rattle.book.specs.declared.Name.{Name}
 use Rattle.book.specs.declared.error.BookError.{BookError}
@@ -29,6 +29,7 @@ with_sheet (Code.Act p o) i = Act p o i
 with_sheet (Code.Begin f g t) i = Begin f g t i
 with_sheet (Code.Finish t) i = Finish t
 with_sheet (Code.Cancel t) i = Cancel t
+with_sheet (Code.Close p) i = Close p
 
 -- the end of transfer t, whose credits go back or not
 abbrev pub ending : ℕ → Bool → Kind
@@ -42,6 +43,7 @@ transfer_of (Code.Act p o) = 0
 transfer_of (Code.Begin f g t) = t % 8
 transfer_of (Code.Finish t) = t % 8
 transfer_of (Code.Cancel t) = t % 8
+transfer_of (Code.Close p) = 0
 
 abbrev pub place_of : Kind → (from to : ℕ) → ℕ
 place_of (Code.Open p) from to = p % 16
@@ -49,6 +51,7 @@ place_of (Code.Act p o) from to = p % 16
 place_of (Code.Begin f g t) from to = f % 16
 place_of (Code.Finish t) from to = to % 16
 place_of (Code.Cancel t) from to = from % 16
+place_of (Code.Close p) from to = p % 16
 
 -- the place whose subject it looks at
 abbrev pub destination_of : Kind → ℕ
@@ -57,22 +60,33 @@ destination_of (Code.Act p o) = 0
 destination_of (Code.Begin f g t) = g % 16
 destination_of (Code.Finish t) = 0
 destination_of (Code.Cancel t) = 0
+destination_of (Code.Close p) = 0
 
 -- the same in a book
 abbrev pub spot : Book → Kind → ℕ
 spot b s = place_of s (transfer_record b (transfer_of s)).from (transfer_record b (transfer_of s)).to
 
+-- whether a transfer under way names the place that it closes; another step does not ask
+abbrev pub awaited_by : Kind → Book → Bool
+awaited_by (Code.Open p) b = false
+awaited_by (Code.Act p o) b = false
+awaited_by (Code.Begin f g t) b = false
+awaited_by (Code.Finish t) b = false
+awaited_by (Code.Cancel t) b = false
+awaited_by (Code.Close p) b = awaited b p
+
 -- a text as a name; none of over 32 bytes
 unfoldable pub short_name : List ℕ → Name
 short_name t = cond (leb (length t) 32) (name_of t) blank_name
 
--- the subject of the place after an accepted step: an open's is its sheet's
+-- the subject of the place after an accepted step: an open's is its sheet's, a close's zeros
 abbrev pub subject_after : Kind → Name → List ℕ → Name
 subject_after (Code.Open p) old i = short_name (bytes_in subject i)
 subject_after (Code.Act p o) old i = old
 subject_after (Code.Begin f g t) old i = old
 subject_after (Code.Finish t) old i = old
 subject_after (Code.Cancel t) old i = old
+subject_after (Code.Close p) old i = blank_name
 
 -- the operations of act that name who authorized them
 unfoldable pub authorized : ℕ → Bool
@@ -91,6 +105,7 @@ pub record Shows (b : Book) (s : Kind) (x : View) : Type 0 where
   pub total : x.total ≡ total_of b
   pub opened : x.opened ≡ b.opened
   pub pending : x.pending ≡ b.pending
+  pub awaited : x.awaited ≡ awaited_by s b
   pub from : x.from ≡ (transfer_record b (transfer_of s)).from
   pub to : x.to ≡ (transfer_record b (transfer_of s)).to
   pub named : x.named ≡ length (name_bytes (place_record b (destination_of s)).subject)

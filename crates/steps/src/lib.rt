@@ -5,6 +5,7 @@
 
 mod act;
 mod begin;
+mod close;
 mod land;
 mod names;
 mod open;

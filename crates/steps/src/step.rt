@@ -21,11 +21,13 @@ pub enum Step {
     Begin(u8, u8, u8),
     Finish(u8),
     Cancel(u8),
+    Close(u8),
 }
 
 // What a step looks at and may alter, in words: what one place holds, one transfer's ends and amount, the two sets, and the total, which a
-// book that fails test 28 has not. Names are not here: the unit is passed beside it, `named` is how long the destination's subject is, always, and
-// only an open writes one.
+// book that fails test 28 has not. `awaited` is whether a transfer under way names the place that a close closes; no step alters it, and it stands
+// before the ends, so that they are read and stored as one word. Names are not here: the unit is passed beside it, `named` is how long the
+// destination's subject is, always, and only an open and a close write one.
 #[derive(Clone, Copy)]
 pub struct View {
     pub held: Uint128,
@@ -33,6 +35,7 @@ pub struct View {
     pub total: Option<Uint128>,
     pub opened: u16,
     pub pending: u8,
+    pub awaited: bool,
     pub from: u8,
     pub to: u8,
     pub named: u8,
@@ -44,7 +47,7 @@ impl Step {
         ensures { result ≡ transfer_of self }
     {
         match self {
-            Step::Open(_) | Step::Act(_, _) => 0,
+            Step::Open(_) | Step::Act(_, _) | Step::Close(_) => 0,
             Step::Begin(_, _, t) | Step::Finish(t) | Step::Cancel(t) => t % TRANSFERS,
         }
     }
@@ -54,7 +57,7 @@ impl Step {
         ensures { result ≡ place_of self from to }
     {
         match self {
-            Step::Open(p) | Step::Act(p, _) | Step::Begin(p, _, _) => p % PLACES,
+            Step::Open(p) | Step::Act(p, _) | Step::Begin(p, _, _) | Step::Close(p) => p % PLACES,
             Step::Finish(_) => to % PLACES,
             Step::Cancel(_) => from % PLACES,
         }
@@ -66,16 +69,18 @@ impl Step {
     {
         match self {
             Step::Begin(_, to, _) => to % PLACES,
-            Step::Open(_) | Step::Act(_, _) | Step::Finish(_) | Step::Cancel(_) => 0,
+            Step::Open(_) | Step::Act(_, _) | Step::Finish(_) | Step::Cancel(_) | Step::Close(_) =>
+                0,
         }
     }
 
-    // The subject of its place once it is accepted: an open writes its sheet's.
+    // The subject of its place once it is accepted: an open writes its sheet's, and a close zeros.
     pub fn subject(self, subject: Name, sheet: &[u8]) -> Name
         ensures { result ≡ subject_after self subject sheet.now }
     {
         match self {
             Step::Open(_) => names::short_name(registry::text(sheet, sheet::SUBJECT)),
+            Step::Close(_) => names::blank_name(),
             Step::Act(_, _) | Step::Begin(_, _, _) | Step::Finish(_) | Step::Cancel(_) => subject,
         }
     }

@@ -4,7 +4,7 @@ ghost use Rattle.book.specs.declared.Book.{Book};
 ghost use Rattle.steps.specs.Turn.{Shows, Turned};
 
 use crate::step::{Step, View};
-use crate::{act, begin, land, open};
+use crate::{act, begin, close, land, open};
 use book::Name;
 use book::error::BookError;
 
@@ -19,5 +19,6 @@ pub fn take_turn(step: Step, was: View, unit: Name, sheet: &[u8]) -> Result<View
         Step::Act(place, operation) => act::act(was, total, place, operation, sheet),
         Step::Begin(from, to, transfer) => begin::begin(was, from, to, transfer, sheet),
         Step::Finish(transfer) | Step::Cancel(transfer) => land::land(was, transfer),
+        Step::Close(place) => close::close(was, place),
     }
 }

@@ -22,7 +22,7 @@ returns-in_err-left c e =
     let b = c.args.book.now in
     let s = c.args.step in
     let m : Turned b s c.args.sheet.now c.take_turn.result =
-    c.take_turn.ensures b (shown b s c.transfer.ensures c.place.ensures c.destination.ensures (ap length c.as_bytes.ensures.text) e) refl in
+    c.take_turn.ensures b (shown b s c.transfer.ensures c.place.ensures c.destination.ensures (ap length c.as_bytes.ensures.text) e c.is_awaited-awaited.ensures) refl in
     let m' : Turned b s c.args.sheet.now (Err c.in_err-left.field-0.0) = rw c.in_err-left.was at m in
     undone b s c.args.sheet.now m' _ _ (exits _ _ c.from_residual.ensures.1)
 
@@ -32,7 +32,7 @@ returns c e =
     let b = c.args.book.now in
     let s = c.args.step in
     let m : Turned b s c.args.sheet.now c.take_turn.result =
-    c.take_turn.ensures b (shown b s c.transfer.ensures c.place.ensures c.destination.ensures (ap length c.as_bytes.ensures.text) e) refl in
+    c.take_turn.ensures b (shown b s c.transfer.ensures c.place.ensures c.destination.ensures (ap length c.as_bytes.ensures.text) e c.is_awaited-awaited.ensures) refl in
     let m' : Turned b s c.args.sheet.now (Ok c.in_ok-left.left) = rw c.in_ok-left.was at m in
     done b s c.args.sheet.now (record { places = search rules; transfers = search rules; opened = search rules; pending = search rules }) c.in_ok-left.left m'
     (stored_so b s c.transfer.ensures c.place.ensures c.args.sheet.now c.in_ok-left.left c.subject-place.ensures)

@@ -18,6 +18,11 @@ returns-in-Begin c b v u =
     let sound = (counted v (some_told c.args.was.total _ _ (sym c.ok_or.ensures.value ∙ c.in_ok-total.was))).0 in
     arm b _ _ _ c.in-Begin.is (c.begin.ensures b sound) v
 
+pub returns-in-Close : goal.returns-in-Close
+returns-in-Close c b v u =
+    let sound = (counted v (some_told c.args.was.total _ _ (sym c.ok_or.ensures.value ∙ c.in_ok-total.was))).0 in
+    arm b _ _ _ c.in-Close.is (c.close.ensures b _ sound) v
+
 pub returns-in-Finish : goal.returns-in-Finish
 returns-in-Finish c b v u =
     let sound = (counted v (some_told c.args.was.total _ _ (sym c.ok_or.ensures.value ∙ c.in_ok-total.was))).0 in
