@@ -1,6 +1,6 @@
 -- What an accepted step of each kind leaves, stored, is its effect; and what the code needs to know of it, on any book value.
 use mathlib.Core.Path.{◌≡◌, refl, sym, ap, ◌∙◌}
-use mathlib.Core.Bool.{Bool, true, false, ◌||◌, true≢false}
+use mathlib.Core.Bool.{Bool, true, false, ◌||◌}
 use mathlib.Core.List.{List}
 use Prim.Native.Nat.{ℕ, ◌+◌, ◌-◌, ◌%◌, ◌^◌, ◌≤◌, ◌<◌}
 use native.Mathlib.Nat.{mod-eq_of_lt}
@@ -18,7 +18,7 @@ use Rattle.book.specs.Book.{place_record, transfer_record, credits, total, is_we
 use Rattle.book.specs.Steps.{Open, Act, Begin, Close, credits_in, bytes_in, adds, doing, changed, refused_if, after_check, Seen, seen, tests_of, tests_finish, answer, landed, effect, held_at, flow, Neither, issues, takes}
 use Rattle.book.specs.declared.Book.{Book}
 use Rattle.book.specs.declared.error.BookError.TheVariants.{TooMuch}
-use Rattle.book.proofs.Facts.{acts_so, begins, Opens, opens, closes, accepted_tests}
+use Rattle.book.proofs.Facts.{or_l, or_r, acts_so, begins, Opens, opens, closes, accepted_tests}
 use Rattle.book.proofs.Formed.{formed}
 use Rattle.book.proofs.Views.{home}
 use Rattle.book.proofs.Endings.{ending as book_ending, end, Ended, ended, lands}
@@ -155,15 +155,11 @@ module _ (b : Book) (p : ℕ) (i : List ℕ) (h : answer b (Open p i) ≡ Ok tt)
 
 -- ---- begin
 
-or_both : (s t : Bool) → s || t ≡ false → (s ≡ false) × (t ≡ false)
-or_both true t h = absurd (true≢false h)
-or_both false t h = (refl, h)
-
 -- 22 is passed
 pub low_ends : (f g t : ℕ) → leb 16 f || leb 16 g || leb 8 t ≡ false → (f < 16) × (g < 16)
 low_ends f g t h =
-    let e = or_both (leb 16 f) (leb 16 g) (or_both (leb 16 f || leb 16 g) (leb 8 t) h).0 in
-    (leb-false 16 f e.0, leb-false 16 g e.1)
+    let ends = or_l (leb 16 f || leb 16 g) (leb 8 t) h in
+    (leb-false 16 f (or_l (leb 16 f) (leb 16 g) ends), leb-false 16 g (or_r (leb 16 f) (leb 16 g) ends))
 
 module _ (b : Book) (f g t : ℕ) (i : List ℕ) (h : answer b (Begin f g t i) ≡ Ok tt) where
   pub stored_begin : (x : View) (m c : Uint128) (k : ℕ) → Shows b (Code.Begin f g t) x → m ≡ halves (held_at b f - credits_in amount i)
