@@ -1,5 +1,6 @@
 #!/usr/bin/env python3
-"""Makes the cases of crates/sheet_cases and the lines that it must print, from document 01's section "Sheets" alone.
+"""Makes the cases of crates/sheet_cases and the lines that it must print, from document 01's section "Sheets" and
+document 02's request 3 alone.
 
 Run it in the repository's root, with no argument:
 
@@ -79,12 +80,22 @@ def as_state(data):
     return "torn"
 
 
+def walk(rows):
+    """How many entries of an input are found sound before the first that is not, and where the next body must start then."""
+    last, place = 0, 1 + 6 * len(rows)
+    for passed, (name, kind, offset, length) in enumerate(rows):
+        if not (last < name <= 10 and kind in (TEXT, OTHER) and length_ok(kind, length) and offset == place):
+            return passed, place
+        last, place = name, place + length
+    return len(rows), place
+
+
 def line(data):
     """What the program prints for a sheet."""
     count = data[0] if data else 0
     padded = data + bytes(1 + 6 * count)
     rows = [struct.unpack_from("<BBHH", padded, 1 + 6 * i) for i in range(count)]
-    words = ["sound" if as_input(data) else "torn", as_state(data), str(rows[0][0]) if rows else "none"]
+    words = ["sound" if as_input(data) else "torn", as_state(data), "{}@{}".format(*walk(rows))]
     for name in range(1, 11):
         for row in rows:
             if row[0] == name:

@@ -8,6 +8,8 @@ use Rattle.sheet.specs.declared.State.TheVariants as State
 use Rattle.sheet.specs.Walk.{every, sum, prior}
 use Rattle.sheet.specs.Sheet.{entry_at, is_field, is_form, sound_as, state_of, entries_from, lookup}
 use Rattle.sheet.specs.Amounts.{amount_at}
+use Rattle.sheet.specs.Reading.{reader_after}
+use Rattle.sheet.specs.declared.reader.Reader.{Reader}
 use Rattle.sheet.specs.Fields.{field, absent, text, figure, other}
 
 -- document 01's first open: subject `N1`, unit `rd`, balance `5`, all texts
@@ -42,6 +44,20 @@ inputs = refl
 states : map state_of ([] ∷ (0 ∷ []) ∷ opened ∷ held ∷ []) ≡ State.Absent ∷ State.Torn ∷ State.Torn ∷ State.Balance ∷ []
 unfolding sound_as is_form is_field entry_at
 states = refl
+
+-- where a reader stands after so many steps, and its place: behind each entry that fits; before a name that stands twice, and before a
+-- body that is a byte late, it stays
+steps : List ℕ → List (ℕ × ℕ)
+steps s = map (λ k. let r : Reader = reader_after (record { ref_ptr = (0, 0); now = s }) k in (r.next, r.at)) (0 ∷ 1 ∷ 2 ∷ 3 ∷ 4 ∷ 5 ∷ [])
+
+stands : map steps (opened ∷ twice ∷ late ∷ placed ∷ [])
+    ≡ ((0, 19) ∷ (1, 21) ∷ (2, 23) ∷ (3, 24) ∷ (3, 24) ∷ (3, 24) ∷ [])
+    ∷ ((0, 13) ∷ (1, 14) ∷ (1, 14) ∷ (1, 14) ∷ (1, 14) ∷ (1, 14) ∷ [])
+    ∷ ((0, 7) ∷ (0, 7) ∷ (0, 7) ∷ (0, 7) ∷ (0, 7) ∷ (0, 7) ∷ [])
+    ∷ ((0, 7) ∷ (1, 7) ∷ (1, 7) ∷ (1, 7) ∷ (1, 7) ∷ (1, 7) ∷ [])
+    ∷ []
+unfolding steps reader_after entry_at sum prior
+stands = refl
 
 texts : map (field opened) (1 ∷ 2 ∷ 4 ∷ 7 ∷ []) ≡ text (78 ∷ 49 ∷ []) ∷ text (114 ∷ 100 ∷ []) ∷ text (53 ∷ []) ∷ absent ∷ []
 unfolding field lookup entries_from entry_at

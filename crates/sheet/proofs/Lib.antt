@@ -5,5 +5,4 @@ pub mod Finding
 pub mod Forms
 pub mod Holding
 pub mod Three
-pub mod Visiting
 pub mod Examples

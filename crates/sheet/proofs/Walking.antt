@@ -1,48 +1,110 @@
--- The walk over an input's table: what holds of the running values after k entries that fit, and what they say at its end.
-use mathlib.Core.Path.{◌≡◌, refl, sym, ap, ◌∙◌}
-use mathlib.Core.Bool.{true, false}
+-- The walk of a reader over an input's table: where it stands after k entries found sound, and what it says at its end. The theorems
+-- are `keeps_its_offset` and `starts_there`.
+use mathlib.Core.Path.{◌≡◌, refl, sym, ap, ◌∙◌, subst}
+use mathlib.Core.Bool.{Bool, true, false, cond, ◌&&◌}
+use mathlib.Core.Logic.{⊎_elim}
 use mathlib.Core.List.{List}
-use Prim.Native.Nat.{ℕ, ◌+◌, ◌*◌, ◌<◌}
+use Rattle.std.specs.Prelude.{Option, Some, None}
+use Rattle.std.specs.Borrow.{Bor}
+use Prim.Native.Nat.{ℕ, zero, suc, ◌+◌, ◌*◌, ◌≤◌, ◌<◌}
+use native.Mathlib.Nat.{eq-or-lt_of_le}
+use native.Mathlib.Numerals.{add-one}
 use native.Mathlib.Omega.{arith}
 use lib.ListN.{length}
 use lib.Dec.{eqb}
+use borrow.Author.Tests.{eqb-true, ltb-true, lt-ltb, le-ltb}
+use Rattle.std.proofs.lemmas.Bool.{and_parts}
 use Rattle.sheet.specs.declared.Entry.{Entry}
+use Rattle.sheet.specs.declared.reader.Reader.{Reader}
 use Rattle.sheet.specs.declared.Shape.TheVariants.{Input}
 use Rattle.sheet.specs.Walk.{every, sum, prior}
-use Rattle.sheet.specs.Sheet.{fits_at, entry_at, count, body_at, name_before, entry_fits, entries_fit, sound_as}
-use Rattle.sheet.proofs.Tables.{all_step, all_stays, sum_step, prior_step}
+use Rattle.sheet.specs.Sheet.{fits_at, entry_at, count, lengths_to, body_at, name_before, entries_fit, sound_as}
+use Rattle.sheet.specs.Reading.{fitting_at, reader_of, next_fitting, behind, reader_after, at_end}
+use Rattle.sheet.proofs.Tables.{all_step, all_stays, prior_step}
 
--- What the walk holds after k entries found to fit: the next body starts behind the table and the bodies so far, `last` is the last name
-pub record Walked (s : List ℕ) (at last k : ℕ) : Type 0 where
-  pub place : at ≡ body_at s k
-  pub above : last ≡ name_before s k
-  pub fit : entries_fit s k ≡ true
+abbrev before : Bor (List ℕ) → ℕ → ℕ → Reader
+before s k at = record { sheet = s; next = k; at = at }
 
-pub walk_start : (s : List ℕ) → Walked s (1 + 6 * count s) 0 0
-unfolding sum prior every
-walk_start s = record { place = omega arith; above = refl; fit = refl }
+-- THE THEOREM: after k entries found sound the reader's place is 1 + 6n plus the lengths of their bodies
+pub keeps_its_offset : (s : Bor (List ℕ)) (k : ℕ) → k ≤ count s.now → entries_fit s.now k ≡ true
+    → reader_after s k ≡ record { sheet = s; next = k; at = 1 + 6 * count s.now + lengths_to s.now k }
+unfolding reader_after every sum
+keeps_its_offset s zero h f = ap (before s 0) (omega arith)
+keeps_its_offset s (suc k) h f =
+    let p = and_parts _ _ f in
+    rw (keeps_its_offset s k (omega arith) p.0, lt-ltb k (count s.now) (omega arith), p.1, add-one) (ap (before s (suc k)) (omega arith))
 
-module _ (s : List ℕ) (e : Entry) (at last k : ℕ) (w : Walked s at last k) (q : e ≡ entry_at s k) where
-  same_test : entry_fits (entry_at s k) (name_before s k) (body_at s k) ≡ entry_fits e last at
-  same_test = rw (q, w.above, w.place)
+-- what a value that is given on a test says of it, and what none says
+some_so : {A : Type 0} {x y : A} (b : Bool) → cond b (Some x) None ≡ Some y → (b ≡ true) × (y ≡ x)
+some_so true h = (refl, cc)
+some_so false h = absurd cc
 
-  pub walk_turn : entry_fits e last at ≡ true → Walked s (at + e.len) e.name (k + 1)
-  walk_turn h =
+none_so : {A : Type 0} (x : A) (b : Bool) → cond b (Some x) None ≡ None → b ≡ false
+none_so x true h = absurd cc
+none_so x false h = refl
+
+-- AND THERE the body starts: of any reader, an entry that it finds to fit has its body exactly at its place
+pub starts_there : (r : Reader) (last : ℕ) (e : Entry) → next_fitting r last ≡ Some e → e.offset ≡ r.at
+starts_there r last e h =
+    let p = some_so _ h in
+    ap (λ (x : Entry). x.offset) p.1 ∙ eqb-true _ _ (and_parts _ _ (and_parts _ _ p.0).1).1
+
+-- What the walk of an input holds: its reader is the one after so many steps, each over an entry found sound
+pub record Walked (s : List ℕ) (r : Reader) (last : ℕ) : Type 0 where
+  pub reads : r.sheet.now ≡ s
+  pub within : r.next ≤ count r.sheet.now
+  pub after : r ≡ reader_after r.sheet r.next
+  pub above : last ≡ name_before r.sheet.now r.next
+  pub fit : entries_fit r.sheet.now r.next ≡ true
+
+pub walk_start : (s : Bor (List ℕ)) → Walked s.now (reader_of s) 0
+unfolding reader_after prior every
+walk_start s = record { reads = refl; within = omega arith; after = refl; above = refl; fit = refl }
+
+module _ (s : List ℕ) (r : Reader) (last : ℕ) (w : Walked s r last) where
+  abbrev t : List ℕ
+  t = r.sheet.now
+
+  abbrev k : ℕ
+  k = r.next
+
+  stands : r ≡ before r.sheet k (body_at t k)
+  stands = w.after ∙ keeps_its_offset r.sheet k w.within w.fit
+
+  found : next_fitting r last ≡ fitting_at t k (name_before t k) (body_at t k)
+  found = ap (λ (x : Reader). next_fitting x last) stands ∙ ap (λ l. fitting_at t k l (body_at t k)) w.above
+
+  one_more : behind r (next_fitting r last) ≡ reader_after r.sheet (k + 1)
+  unfolding reader_after
+  one_more = rw (add-one, w.above) (ap (λ (x : Reader). behind x (next_fitting x (name_before t x.next))) w.after)
+
+  pub walk_turn : (e : Entry) → next_fitting r last ≡ Some e → Walked s (behind r (next_fitting r last)) e.name
+  walk_turn e h =
+      let p = some_so _ (sym found ∙ h) in
+      let q = and_parts _ _ p.0 in
+      let below : k < count t = ltb-true k (count t) q.0 in
+      subst (λ (x : Option Entry). Walked s (behind r x) e.name) (sym h)
       record {
-        place = let g : e.len ≡ (entry_at s k).len = ap (λ (x : Entry). x.len) q in omega (arith, sum_step (λ j. (entry_at s j).len) k, w.place);
-        above = ap (λ (x : Entry). x.name) q ∙ sym (prior_step (λ j. (entry_at s j).name) k);
-        fit = all_step (fits_at s) k ∙ (rw w.fit (same_test ∙ h));
+        reads = w.reads;
+        within = omega arith;
+        after = ap (behind r) (sym h) ∙ one_more;
+        above = ap (λ (x : Entry). x.name) p.1 ∙ sym (prior_step (λ j. (entry_at t j).name) k);
+        fit = all_step (fits_at t) k ∙ rw (w.fit, q.1) refl;
       }
 
-  pub walk_torn : (n : ℕ) → k < n → entry_fits e last at ≡ false → entries_fit s n ≡ false
-  walk_torn n lt h = all_stays (fits_at s) (k + 1) n (omega arith) (all_step (fits_at s) k ∙ rw w.fit (same_test ∙ h))
-
-module _ (s : List ℕ) where
-  pub torn_entry : entries_fit s (count s) ≡ false → sound_as Input s ≡ false
+  -- Where the reader stays the walk ends. Behind the last entry the sheet is sound where the next body would start at its end; before
+  -- any other it is torn
+  pub walk_end : next_fitting r last ≡ None → at_end (behind r (next_fitting r last)) ≡ sound_as Input s
   unfolding sound_as
-  torn_entry e = rw e
+  walk_end h = rw h (ap at_end stands ∙ ⊎_elim ended torn (eq-or-lt_of_le w.within) ∙ ap (sound_as Input) w.reads)
+    where
+      ended : k ≡ count t → at_end (before r.sheet k (body_at t k)) ≡ sound_as Input t
+      ended q =
+          let all : entries_fit t (count t) ≡ true = subst (λ j. entries_fit t j ≡ true) q w.fit in
+          rw (le-ltb k (count t) (omega arith), all) (ap (λ j. eqb (body_at t j) (length t)) q)
 
-  -- behind the last entry, soundness is that the next body would start at the sheet's end
-  pub walk_end : (at last k : ℕ) → Walked s at last k → k ≡ count s → sound_as Input s ≡ eqb at (length s)
-  unfolding sound_as
-  walk_end at last k w e = rw (rw e at w.fit, w.place, e)
+      torn : k < count t → at_end (before r.sheet k (body_at t k)) ≡ sound_as Input t
+      torn lt =
+          let here = lt-ltb k (count t) lt in
+          let unfit : fits_at t k ≡ false = ap (λ b. b && fits_at t k) (sym here) ∙ none_so _ _ (sym found ∙ h) in
+          rw (here, all_stays (fits_at t) (k + 1) (count t) (omega arith) (all_step (fits_at t) k ∙ rw w.fit unfit)) refl

@@ -6,10 +6,12 @@ ghost use Rattle.std.specs.Prelude.{◌≡◌, ◌+◌, ◌<◌, ◌≤◌, get_
 ghost use Rattle.sheet.specs.Sheet.{u16_at, entry_at, table, lookup, part_of, body_of};
 
 mod amounts;
-pub mod reader;
+mod reader;
 mod soundness;
 
 pub use amounts::{amount_at, amount_bytes};
+pub use reader::Reader;
+use reader::has_entry;
 pub use soundness::{is_sound, state_of};
 
 // The names of fields: document 01's numbers, which stand in sheets and in answers as bytes. An enum would need a variant for the other
@@ -118,12 +120,13 @@ pub fn u16_at(s: &[u8], i: usize) -> u16
 pub fn find(s: &[u8], name: u8) -> Option<Entry>
     ensures { result ≡ lookup name (table s.now) }
 {
-    let n = byte(s, 0) as usize;
-    // by index: the table may be cut off, and a byte past the end is 0
-    for k in 0..n {
+    let mut k = 0;
+    while has_entry(s, k) {
+        // by the name alone: the other five bytes are read of the entry that is returned
         if byte(s, 1 + 6 * k) == name {
             return Some(entry_at(s, k));
         }
+        k += 1;
     }
     None
 }

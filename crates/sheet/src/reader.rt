@@ -1,81 +1,72 @@
-// A reader that holds the sheet and the next entry: few and thin functions, each of which takes the struct apart and calls a
-// function on the slice and the number. It is an iterator over the table's entries too.
-ghost use Rattle.std.specs.Prelude.{◌≡◌};
-ghost use Rattle.std.specs.Iterator.{YieldsFirst, item_count};
-ghost use Rattle.sheet.specs.Visit.{found_at, after_of, reader_of, behind, ahead};
+// A reader judges the table of an input sheet: it holds the sheet, the next entry's number and `at`, where the body of that entry
+// must start. Few and thin methods over functions on the slice and the numbers.
+ghost use Rattle.std.specs.Prelude.{◌≡◌, ◌<◌, IsSome, IsTrue, ltb};
+ghost use Rattle.sheet.specs.Sheet.{count};
+ghost use Rattle.sheet.specs.Reading.{fitting_at, reader_of, next_fitting, behind, at_end};
 
+use super::soundness::entry_fits;
 use super::{Entry, byte, entry_at};
 
 #[derive(Clone, Copy)]
 pub struct Reader<'a> {
     pub sheet: &'a [u8],
     pub next: usize,
-}
-
-// What a reader that stands before entry k finds.
-pub fn step_at(s: &[u8], k: usize) -> Option<Entry>
-    ensures { result ≡ found_at s.now k }
-{
-    let n = byte(s, 0) as usize;
-    if k < n { Some(entry_at(s, k)) } else { None }
-}
-
-// The number of the entry behind entry k; no sheet has an entry 255.
-pub fn after(k: usize) -> usize
-    ensures { result ≡ after_of k }
-{
-    if k < 255 { k + 1 } else { 255 }
+    pub at: usize,
 }
 
 impl<'a> Reader<'a> {
-    // A reader before entry 0.
+    // Before the first entry; the first body starts behind the table.
     pub fn new(sheet: &'a [u8]) -> Reader<'a>
         ensures { result ≡ reader_of sheet.entry }
     {
-        Reader { sheet, next: 0 }
-    }
-
-    // The next entry. `sheet::entry_body` gives its body.
-    pub fn entry(self) -> Option<Entry>
-        ensures { result ≡ found_at self.entry.sheet.now self.entry.next }
-    {
-        step_at(self.sheet, self.next)
-    }
-
-    // The reader behind the next entry.
-    pub fn rest(self) -> Reader<'a>
-        ensures { result ≡ behind self.entry }
-    {
+        let n = byte(sheet, 0) as usize;
         Reader {
-            sheet: self.sheet,
-            next: after(self.next),
+            sheet,
+            next: 0,
+            at: 1 + 6 * n,
         }
+    }
+
+    // The next entry, if it fits above the name `last`; the reader is behind it then. An entry that fits has `at` as its 16-bit
+    // offset, so that adding its length cannot overflow, whatever the fields were.
+    pub fn next_if_fits(&mut self, last: u8) -> Option<Entry>
+        ensures found { result ≡ next_fitting self.old last }
+        ensures moved { self.new ≡ behind self.old (next_fitting self.old last) }
+    {
+        let e = fitting_at(self.sheet, self.next, last, self.at)?;
+        self.next += 1;
+        self.at += e.len as usize;
+        Some(e)
+    }
+
+    // Whether it stands behind the last entry, its place the sheet's end.
+    pub fn is_at_end(self) -> bool
+        ensures { result ≡ at_end self.entry }
+    {
+        !has_entry(self.sheet, self.next) && self.at == self.sheet.len()
     }
 }
 
-impl<'a> Iterator for Reader<'a> {
-    type Item = Entry;
-
-    ghost next_gives = { YieldsFirst ahead };
-
-    ghost remaining = { item_count ahead };
-
-    #[tactic(auto, using(crate::proofs::Tables::entries_step, crate::proofs::Tables::entries_end))]
-    fn next(&mut self) -> Option<Entry> {
-        let n = byte(self.sheet, 0) as usize;
-        if self.next < n {
-            let e = entry_at(self.sheet, self.next);
-            self.next += 1;
-            Some(e)
-        } else {
-            None
-        }
-    }
-}
-
-// The first entry, of a plain slice.
-pub fn first(s: &[u8]) -> Option<Entry>
-    ensures { result ≡ found_at s.now 0 }
+// Whether the table has an entry k.
+pub(crate) fn has_entry(s: &[u8], k: usize) -> bool
+    ensures found { result ≡ ltb k (count s.now) }
+    ensures below { IsTrue result → k < 255 }
 {
-    Reader::new(s).entry()
+    k < byte(s, 0) as usize
+}
+
+// Entry k, if the table has it and it fits above the name `last` with its body at `at`.
+fn fitting_at(s: &[u8], k: usize, last: u8, at: usize) -> Option<Entry>
+    ensures found { result ≡ fitting_at s.now k last at }
+    ensures below { IsSome result → k < 255 }
+{
+    if !has_entry(s, k) {
+        return None;
+    }
+    let e = entry_at(s, k);
+    if entry_fits(e, last, at) {
+        Some(e)
+    } else {
+        None
+    }
 }

@@ -5,7 +5,7 @@ ghost use Rattle.sheet.specs.declared.Shape.TheVariants.{Input};
 
 use super::{
     AUTHORIZED_BY, BALANCE, BALANCE_FORM, Entry, Form, KIND_AMOUNT, KIND_OTHER, KIND_TEXT, MAXIMUM,
-    METER_FORM, QUANTITY, STACK_FORM, SUBJECT, Shape, State, byte, entry_at,
+    METER_FORM, QUANTITY, Reader, STACK_FORM, SUBJECT, Shape, State, byte, entry_at,
 };
 
 // Whether the bytes are a sheet of this shape. A match: what differs is which constant form is tested.
@@ -66,7 +66,7 @@ fn body_fits(e: Entry, at: usize) -> bool
 }
 
 // Whether an entry of an input fits above the name `last`, its body starting at `at`.
-fn entry_fits(e: Entry, last: u8, at: usize) -> bool
+pub(crate) fn entry_fits(e: Entry, last: u8, at: usize) -> bool
     ensures { result ≡ entry_fits e last at }
 {
     last < e.name && input_allows(e.name, e.kind) && body_fits(e, at)
@@ -80,25 +80,16 @@ fn is_field(e: Entry, name: u8, kind: u8, at: usize) -> bool
     e.name == name && e.kind == kind && body_fits(e, at)
 }
 
-// Whether the bytes are an input. `at` is where the next body must start, and moves by each entry's own length; it is a
-// usize, so that no sum of 16-bit lengths wraps. The last body ends the sheet.
-#[tactic(auto, using(crate::proofs::Walking::walk_start, crate::proofs::Walking::walk_torn, crate::proofs::Walking::torn_entry, crate::proofs::Walking::walk_end))]
+// Whether the bytes are an input: a reader finds every entry of the table sound, and the last body ends the sheet.
 fn is_input(s: &[u8]) -> bool
     ensures { result ≡ sound_as Input s.now }
 {
-    let n = byte(s, 0) as usize;
-    let mut at = 1 + 6 * n;
+    let mut reader = Reader::new(s);
     let mut last = 0u8;
-    // by index, as `entry_at` reads: an entry may be cut off
-    for k in 0..n {
-        let e = entry_at(s, k);
-        if !entry_fits(e, last, at) {
-            return false;
-        }
-        at += e.len as usize;
+    while let Some(e) = reader.next_if_fits(last) {
         last = e.name;
     }
-    at == s.len()
+    reader.is_at_end()
 }
 
 // Whether the bytes are a state of this form. Its three fields stand in their order, so that no walk is needed; a

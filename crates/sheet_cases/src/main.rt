@@ -6,7 +6,7 @@
 #![tactic(auto)]
 
 use amount::Amount;
-use sheet::{BALANCE_FORM, STACK_FORM, Shape, State};
+use sheet::{BALANCE_FORM, Reader, STACK_FORM, Shape, State};
 use std::io;
 use std::io::{BufWriter, Read, Write};
 
@@ -37,12 +37,14 @@ fn print_state(out: &mut impl Write, s: &[u8]) -> io::Result<()> {
     }
 }
 
-// The first entry's name, by the reader.
-fn print_first(out: &mut impl Write, s: &[u8]) -> io::Result<()> {
-    match sheet::reader::first(s) {
-        Some(e) => write!(out, " {}", e.name),
-        None => write!(out, " none"),
+// Where a reader of the input stops, and the place that it keeps there.
+fn print_walk(out: &mut impl Write, s: &[u8]) -> io::Result<()> {
+    let mut reader = Reader::new(s);
+    let mut last = 0;
+    while let Some(e) = reader.next_if_fits(last) {
+        last = e.name;
     }
+    write!(out, " {}@{}", reader.next, reader.at)
 }
 
 // What lookup finds: name, kind, offset and length, the length of the body that is there, and an amount's value.
@@ -62,7 +64,7 @@ fn print_field(out: &mut impl Write, s: &[u8], name: u8) -> io::Result<()> {
 fn judge(out: &mut impl Write, s: &[u8]) -> io::Result<()> {
     print_input(out, s)?;
     print_state(out, s)?;
-    print_first(out, s)?;
+    print_walk(out, s)?;
     for name in 1..=10 {
         print_field(out, s, name)?;
     }

@@ -1,7 +1,10 @@
 use mathlib.Core.Path.{◌≡◌}
 use Prim.Native.Nat.{◌-◌}
-use Rattle.sheet.specs.Sheet.{lookup, table, entries_from}
+use Rattle.sheet.specs.Sheet.{count, lookup, table, entries_from}
 use Rattle.sheet.proofs.find.Given as goal
 
-abbrev pub invariant-loop-k : goal.invariant-loop-k
-invariant-loop-k l = lookup l.name (table l.s) ≡ lookup l.name (entries_from l.s l.k (l.n - l.k))
+abbrev pub invariant-loop-name : goal.invariant-loop-name
+invariant-loop-name l = lookup l.name (table l.s) ≡ lookup l.name (entries_from l.s l.k (count l.s - l.k))
+
+abbrev pub decreases-loop-name : goal.decreases-loop-name
+decreases-loop-name l = count l.s - l.k

@@ -1,9 +1,15 @@
-use Rattle.std.proofs.Common.{sym, ◌∙◌, rules}
-use Rattle.sheet.proofs.Walking.{walk_turn}
+use Rattle.std.proofs.Common.{sym, ◌∙◌}
+use Rattle.sheet.proofs.Walking.{walk_start, walk_turn, walk_end}
 use Rattle.sheet.proofs.soundness.is_input.Goals as goal
 
-pub loop-k-preserved : goal.loop-k-preserved
-loop-k-preserved c = (
-  search rules,
-  walk_turn _ c.entry_at-e.result _ _ _ c.loop-k.invariant.1 c.entry_at-e.ensures (sym c.entry_fits.ensures ∙ c.if-not-entry_fits.false),
-)
+pub loop-e-init : goal.loop-e-init
+loop-e-init c = rw c.new-reader.ensures (walk_start _)
+
+pub loop-e-preserved : goal.loop-e-preserved
+loop-e-preserved c =
+    rw c.next_if_fits.ensures.moved (walk_turn _ _ _ c.loop-e.invariant _ (sym c.next_if_fits.ensures.found ∙ c.in-Some.is))
+
+pub returns : goal.returns
+returns c =
+    rw (c.is_at_end.ensures, c.next_if_fits.ensures.moved)
+    (walk_end _ _ _ c.loop-e.invariant (sym c.next_if_fits.ensures.found ∙ c.in_default.is))
