@@ -242,7 +242,16 @@ credits_text credits_amount_text(credits_amount a);
 credits_answer credits_check(uint8_t profile, uint8_t operation, const uint8_t *state, uint64_t state_len,
                              const uint8_t *input, uint64_t input_len);
 
-/* Writes the next state; CREDITS_SHEET_MAX bytes are always enough. Not a check: ask credits_check first. */
+/* Writes the next state; CREDITS_SHEET_MAX bytes are always enough. Not a check: ask credits_check first.
+ *
+ * Where the check of one of these operations accepts, that is a promise:
+ *   CREDITS_STACK_DEBIT, CREDITS_STACK_CONSUME, CREDITS_STACK_TRANSFER, CREDITS_STACK_RESERVE,
+ *   CREDITS_BALANCE_DEBIT, CREDITS_BALANCE_TRANSFER, CREDITS_BALANCE_RESERVE, CREDITS_BALANCE_SPEND, CREDITS_BALANCE_BURN,
+ *   CREDITS_BALANCE_CONVERT, CREDITS_METER_CONSUME.
+ * Apply of the same profile, operation, state and input accepts, however much later, and the new quantity plus the requested
+ * one is the old exactly, if the state is of the profile's kind, its subject is not empty, nor (but for the last two) its
+ * unit, and out holds the sheet. The state that an apply wrote needs a check of its own: two checks of one state do not
+ * promise both, one after the other. Of credits_credit nothing is promised. */
 credits_answer credits_apply(uint8_t profile, uint8_t operation, const uint8_t *state, uint64_t state_len,
                              const uint8_t *input, uint64_t input_len, uint8_t *out, uint64_t out_len);
 
@@ -294,6 +303,17 @@ static inline const char *credits_word(uint8_t number)
         "awaited"
     };
     return number < sizeof words / sizeof *words ? words[number] : "unknown";
+}
+
+/* Check, and where it accepts, apply; what check refuses is refused so, and out stays as it was. */
+static inline credits_answer credits_check_then_apply(uint8_t profile, uint8_t operation, const uint8_t *state,
+                                                      uint64_t state_len, const uint8_t *input, uint64_t input_len,
+                                                      uint8_t *out, uint64_t out_len)
+{
+    credits_answer checked = credits_check(profile, operation, state, state_len, input, input_len);
+    if (checked.number != CREDITS_ACCEPTED)
+        return checked;
+    return credits_apply(profile, operation, state, state_len, input, input_len, out, out_len);
 }
 
 /* ---- layouts: a compiler that lays a struct out in another way does not fit the library, and stops here. C before C11 and

@@ -355,6 +355,14 @@ pub fn apply(profile: u8, operation: u8, state: &[u8], input: &[u8], out: &mut [
     }
 }
 
+pub fn check_then_apply(profile: u8, operation: u8, state: &[u8], input: &[u8], out: &mut [u8]) -> Answer {
+    let checked = check(profile, operation, state, input);
+    if checked.number != ACCEPTED {
+        return checked;
+    }
+    apply(profile, operation, state, input, out)
+}
+
 pub fn credit(operation: u8, source: &[u8], destination: &[u8], input: &[u8], out: &mut [u8]) -> Answer {
     let (source_n, destination_n) = (source.len() as u64, destination.len() as u64);
     let (input_n, out_n) = (input.len() as u64, out.len() as u64);

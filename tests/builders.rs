@@ -112,6 +112,11 @@ fn calls() {
     assert_eq!((done.number, done.length, &far[19..24]), (ACCEPTED, 40, &[b'N', b'2', b'r', b'd', 3][..]));
     let short = check(PROFILE_BALANCE, BALANCE_SPEND, &next[..40], spend);
     assert_eq!((short.number, short.available, short.requested), (SHORT, amount(0, 2, 0), amount(0, 3, 0)));
+    let written = *far;
+    assert_eq!(check_then_apply(PROFILE_BALANCE, BALANCE_SPEND, &next[..40], spend, far).number, SHORT);
+    assert_eq!(*far, written);
+    let done = check_then_apply(PROFILE_BALANCE, BALANCE_SPEND, &STATE, spend, far);
+    assert_eq!((done.number, &far[..40]), (ACCEPTED, &next[..40]));
 
     let five = amount_read(b"5").amount;
     assert_eq!((five, amount_read(b"x").number), (amount(0, 5, 0), NOT_WHOLE));

@@ -272,8 +272,14 @@ static credits_answer written(const write_case *c, uint8_t *out, size_t room)
                           out, room);
 }
 
+static credits_answer checked_and_written(const write_case *c, uint8_t *out, size_t room)
+{
+    sheet state = sheet_of(c->state), input = sheet_of(c->input);
+    return credits_check_then_apply(c->profile, c->operation, state.bytes, state.len, input.bytes, input.len, out, room);
+}
+
 /* From no byte to three more than are needed. Any other refusal comes before 20, whatever the length. */
-static void in_each_length(const write_case *c)
+static void in_each_length(const write_case *c, credits_answer (*call)(const write_case *, uint8_t *, size_t))
 {
     sheet next = sheet_of(c->next);
     size_t most = c->number ? 64 : next.len + 3;
@@ -282,7 +288,7 @@ static void in_each_length(const write_case *c)
         int fits = c->number == 0 && room >= next.len;
         credits_answer want = fits ? accepted(next.len) : c->number ? refused(c->number, c->detail) : refused(NARROW, 0);
         patterned(space, sizeof space);
-        answer_is(c->at, written(c, space + GUARD, room), want);
+        answer_is(c->at, call(c, space + GUARD, room), want);
         only_written(c->at, space, sizeof space, next.bytes, fits ? next.len : 0);
     }
 }
@@ -381,12 +387,50 @@ static const write_case payments[] = {
     PAYS_NOT(15, BALANCE, "1:N2 2:rd 4#M/0", "7:1 8:N2", 17, 0),
 };
 
+/* Both in one: each operation that takes, at scales 0 and 1, and what check refuses and apply alone would write. */
+static const write_case checked[] = {
+    WRITES(1, 3, STACK, "3:2", "1:N1 2:rd 3#3/0"),
+    WRITES(1, 4, "1:N1 2:rd 3#15/1", "3:1", "1:N1 2:rd 3#5/1"),
+    WRITES(1, 5, STACK, "3:5 8:N2", "1:N1 2:rd 3#0/0"),
+    WRITES(1, 6, STACK, "3:1", "1:N1 2:rd 3#4/0"),
+    WRITES(2, 14, BALANCE, "7:5", "1:N1 2:rd 4#0/0"),
+    WRITES(2, 15, BALANCE, "7:5 8:N2", "1:N1 2:rd 4#0/0"),
+    WRITES(2, 16, BALANCE, "7:1", "1:N1 2:rd 4#4/0"),
+    WRITES(2, 18, "1:N1 2:rd 4#12/1", "7:1", "1:N1 2:rd 4#2/1"),
+    WRITES(2, 19, BALANCE, "7:1 10:boss", "1:N1 2:rd 4#4/0"),
+    WRITES(2, 20, "1:N1 2: 4#5/0", "7:2 9:kr", "1:N1 2:kr 4#3/0"), /* no unit is needed */
+    WRITES(3, 22, "1:N1 5#12/1 6#9/0", "7:1", "1:N1 5#2/1 6#9/0"),
+    REFUSES(1, 3, STACK, "3:0", 14, 0),
+    REFUSES(2, 14, BALANCE, "7:0", 14, 0),
+    REFUSES(2, 19, BALANCE, "7:1", 7, 10),
+    REFUSES(1, 1, METER, "1:N1 2:rd 3:5", 5, 0),
+    REFUSES(3, 21, NULL, "1:N1 5:6 6:5", 16, 0),
+    REFUSES(2, 14, "1:N1 2: 4#5/0", "7:1", 13, 2), /* check does not ask for these, and promises nothing here */
+    REFUSES(2, 14, "1: 2:rd 4#5/0", "7:1", 13, 1),
+    REFUSES(3, 22, "1: 5#5/0 6#9/0", "7:1", 13, 1),
+    REFUSES(4, 0, "1:N1", NULL, 1, 1),
+    REFUSES(4, 0, STACK, NULL, 2, 0),
+    REFUSES(4, 0, STACK, "", 3, 0),
+    REFUSES(3, 20, STACK, "", 4, 0),
+};
+
 static void writing(void)
 {
+    static const write_case more = REFUSES(2, 18, "1:N1 2:rd 4#15/1", "7:2", SHORT, 0);
+    credits_answer want = refused(SHORT, 0);
+    uint8_t space[600], before[600];
     for (size_t k = 0; k < COUNT(applies); k++)
-        in_each_length(&applies[k]);
+        in_each_length(&applies[k], written);
     for (size_t k = 0; k < COUNT(payments); k++)
-        in_each_length(&payments[k]);
+        in_each_length(&payments[k], written);
+    for (size_t k = 0; k < COUNT(checked); k++)
+        in_each_length(&checked[k], checked_and_written);
+    want.available = amount_of("15/1");
+    want.requested = amount_of("2/0");
+    patterned(space, sizeof space);
+    memcpy(before, space, sizeof space);
+    answer_is(more.at, checked_and_written(&more, space, sizeof space), want);
+    bytes_are(more.at, "the output", space, before, sizeof space);
 }
 
 /* ---- the book */
@@ -777,6 +821,8 @@ static void without_bytes(void)
     answer_is(AT, credits_check(2, 11, NULL, 0, NULL, 0), refused(2, 0));
     answer_is(AT, credits_apply(2, 11, NULL, 0, NULL, 0, NULL, 0), refused(2, 0));
     answer_is(AT, credits_apply(2, 11, NULL, 0, create.bytes, create.len, NULL, 0), refused(NARROW, 0));
+    answer_is(AT, credits_check_then_apply(2, 11, NULL, 0, NULL, 0, NULL, 0), refused(2, 0));
+    answer_is(AT, credits_check_then_apply(2, 11, NULL, 0, create.bytes, create.len, NULL, 0), refused(NARROW, 0));
     answer_is(AT, credits_credit(15, NULL, 0, NULL, 0, NULL, 0, NULL, 0), refused(2, 0));
     answer_is(AT, credits_credit(15, state.bytes, state.len, NULL, 0, pay.bytes, pay.len, NULL, 0), refused(NARROW, 0));
     answer_is(AT, none.answer, refused(9, 2));

@@ -9,7 +9,7 @@
 #include <stdint.h>
 
 /* Kinds of calls; START to CLOSE are also the kinds of a session's entries. */
-enum { START, OPEN, ACT, BEGIN, FINISH, CANCEL, CLOSE, CHECK, APPLY, CREDIT, KINDS };
+enum { START, OPEN, ACT, BEGIN, FINISH, CANCEL, CLOSE, CHECK, APPLY, BOTH, CREDIT, KINDS };
 enum { TEXT = 1, OTHER = 2, AMOUNT = 3 }; /* kinds of a sheet's fields */
 enum { SHORT = 15, NARROW = 20, BAD_BOOK = 28, AWAITED = 30, NUMBERS = 31 };
 

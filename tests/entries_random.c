@@ -56,7 +56,7 @@ static void flip_a_bit(uint8_t *bytes, size_t n)
 #define AMOUNTS (D(3) | D(4) | D(5) | D(6) | D(7))
 
 static const char *const kinds[KINDS] = { "start",  "open",  "act",   "begin", "finish",
-                                          "cancel", "close", "check", "apply", "credit" };
+                                          "cancel", "close", "check", "apply", "both",  "credit" };
 
 static const uint16_t details[KINDS][NUMBERS] = {
     [START] = { [0] = NONE, [9] = D(2), [27] = D(2) },
@@ -77,6 +77,12 @@ static const uint16_t details[KINDS][NUMBERS] = {
                 [7] = D(1) | D(2) | AMOUNTS | D(8) | D(9), [8] = D(1) | D(2) | D(8) | D(9),
                 [9] = D(1) | D(2) | D(8) | D(9), [10] = AMOUNTS, [11] = AMOUNTS,
                 [12] = D(2) | D(3) | D(4) | D(5) | D(6), [13] = D(1) | D(2), [17] = NONE, [18] = NONE, [20] = NONE },
+    /* what check answers, and where it accepts, of apply what check does not ask for */
+    [BOTH] = { [0] = NONE, [1] = D(1), [2] = NONE, [3] = NONE, [4] = NONE, [5] = NONE, [6] = NONE,
+               [7] = D(1) | D(2) | AMOUNTS | D(8) | D(9) | D(10), [8] = D(1) | D(2) | D(8) | D(9) | D(10),
+               [9] = D(1) | D(2) | D(8) | D(9) | D(10), [10] = AMOUNTS, [11] = AMOUNTS,
+               [12] = D(2) | D(3) | D(4) | D(5) | D(6), [13] = D(1) | D(2), [14] = NONE, [15] = NONE, [16] = NONE,
+               [17] = NONE, [20] = NONE },
     [CREDIT] = { [0] = NONE, [1] = D(1) | D(2), [2] = NONE, [6] = NONE, [7] = D(3) | D(7) | D(8), [8] = D(8), [9] = D(8),
                  [10] = D(3) | D(7), [11] = D(3) | D(7), [12] = D(2) | D(3) | D(4), [13] = D(2), [17] = NONE,
                  [19] = NONE, [20] = NONE },
@@ -103,7 +109,7 @@ static void answer_fits(const char *at, int kind, credits_answer a)
         amount_is(at, "available", a.available, zero);
         amount_is(at, "requested", a.requested, zero);
     }
-    if (a.number != 0 || (kind != APPLY && kind != CREDIT))
+    if (a.number != 0 || (kind != APPLY && kind != BOTH && kind != CREDIT))
         number_is(at, "length", a.length, 0);
 }
 
@@ -362,7 +368,7 @@ static void random_reading(void)
     }
 }
 
-/* ---- check, apply, credit */
+/* ---- check, apply, both in one, credit */
 
 static void random_check(void)
 {
@@ -373,7 +379,7 @@ static void random_check(void)
     first_refusal_is(AT, a, first_refusal(profile, operation, &state, &input));
 }
 
-/* One call of apply, or of credit where kind says so; the same again with another buffer is the same call. */
+/* One call of apply, of both in one, or of credit, as kind says; the same again with another buffer is the same call. */
 typedef struct { int kind; uint8_t profile, operation; sheet state, destination, input; } writing;
 
 static credits_answer write_into(const writing *w, uint8_t *out, size_t room)
@@ -381,6 +387,9 @@ static credits_answer write_into(const writing *w, uint8_t *out, size_t room)
     if (w->kind == APPLY)
         return credits_apply(w->profile, w->operation, w->state.bytes, w->state.len, w->input.bytes, w->input.len, out,
                              room);
+    if (w->kind == BOTH)
+        return credits_check_then_apply(w->profile, w->operation, w->state.bytes, w->state.len, w->input.bytes,
+                                        w->input.len, out, room);
     return credits_credit(w->operation, w->state.bytes, w->state.len, w->destination.bytes, w->destination.len,
                           w->input.bytes, w->input.len, out, room);
 }
@@ -394,9 +403,9 @@ static void random_writing(void)
     uint8_t whole[GUARD + ROOM + GUARD], part[GUARD + ROOM + GUARD];
     credits_answer a, b;
     size_t room;
-    w.kind = one_in(2) ? APPLY : CREDIT;
+    w.kind = (int[]){ APPLY, BOTH, CREDIT }[below(3)];
     w.profile = some(4);
-    w.operation = w.kind == APPLY ? any_operation(w.profile) : one_in(8) ? some(27) : one_in(2) ? 5 : 15;
+    w.operation = w.kind != CREDIT ? any_operation(w.profile) : one_in(8) ? some(27) : one_in(2) ? 5 : 15;
     w.state = any_state();
     w.destination = any_state();
     w.input = any_input();
@@ -406,7 +415,7 @@ static void random_writing(void)
 
     a = write_into(&w, whole + GUARD, ROOM);
     answer_fits(AT, w.kind, a);
-    if (w.kind == APPLY)
+    if (w.kind != CREDIT)
         first_refusal_is(AT, a, first_refusal(w.profile, w.operation, &w.state, &w.input));
     else
         first_refusal_is(AT, a, !is_state(&w.state) || !is_state(&w.destination) ? 1 : !is_input(&w.input) ? 2 : 0);
@@ -420,6 +429,66 @@ static void random_writing(void)
     number_fits(AT, w.kind, b.number, b.detail);
     only_written(AT, part, sizeof part, whole + GUARD, b.length);
     bytes_are(AT, "what was lent to be read", &w, &before, sizeof w);
+}
+
+/* ---- document 02's request 4: an accepted check of an operation that takes is a promise */
+
+static const struct { uint8_t profile, operation; } takes[] = { { 1, 3 },  { 1, 4 },  { 1, 5 },  { 1, 6 },
+                                                                { 2, 14 }, { 2, 15 }, { 2, 16 }, { 2, 18 },
+                                                                { 2, 19 }, { 2, 20 }, { 3, 22 } };
+static uint32_t kept[COUNT(takes)];
+
+static const uint8_t *body_of(const sheet *s, size_t k, size_t *len)
+{
+    const uint8_t *entry = s->bytes + 1 + 6 * k;
+    *len = get16(entry + 4);
+    return s->bytes + get16(entry + 2);
+}
+
+static credits_amount amount_in(const sheet *s, size_t k)
+{
+    size_t len;
+    const uint8_t *at = body_of(s, k, &len);
+    credits_amount a = zero;
+    for (int i = 7; i >= 0; i--) {
+        a.mantissa.lo = a.mantissa.lo << 8 | at[i];
+        a.mantissa.hi = a.mantissa.hi << 8 | at[8 + i];
+    }
+    a.scale = at[16];
+    return a;
+}
+
+/* Apply keeps it, and so do both in one: what was written is of the kind, and what is left and what was asked for are what was held. */
+static void random_promise(void)
+{
+    uint32_t n = below(COUNT(takes));
+    uint8_t profile = takes[n].profile, operation = takes[n].operation;
+    size_t third = profile == 3 ? 1 : 2, k = 0, len, unit;
+    const uint8_t *text;
+    sheet state = any_state(), input = any_input(), left, again;
+    credits_answer a, b;
+    credits_given asked, sum;
+    if (credits_check(profile, operation, state.bytes, state.len, input.bytes, input.len).number != 0)
+        return;
+    body_of(&state, 0, &len);
+    body_of(&state, 1, &unit);
+    if (len == 0 || (unit == 0 && operation != 20)) /* a meter's second body is an amount */
+        return;
+    kept[n]++;
+    a = credits_apply(profile, operation, state.bytes, state.len, input.bytes, input.len, left.bytes, CREDITS_SHEET_MAX);
+    b = credits_check_then_apply(profile, operation, state.bytes, state.len, input.bytes, input.len, again.bytes, a.length);
+    left.len = a.length;
+    answer_is(AT, a, accepted(left.len));
+    answer_is(AT, b, a);
+    bytes_are(AT, "what both in one wrote", again.bytes, left.bytes, a.length);
+    number_is(AT, "whether the state is of the kind", is_state(&left) && left.bytes[1 + 6 * third] == forms[profile - 1][third], 1);
+    while (input.bytes[1 + 6 * k] != (profile == 1 ? 3 : 7))
+        k++;
+    text = body_of(&input, k, &len);
+    asked = credits_amount_read(text, len);
+    sum = credits_amount_add(amount_in(&left, third), asked.amount);
+    number_is(AT, "whether what is left and what was asked for have a sum", sum.number, 0);
+    number_is(AT, "whether the two are what was held", credits_amount_compare(sum.amount, amount_in(&state, third)), 1);
 }
 
 /* ---- books */
@@ -792,10 +861,14 @@ void random_calls(uint64_t seed)
         random_reading();
         random_check();
         random_writing();
+        random_promise();
         random_books();
         random_start();
         if (k % 8 == 0)
             random_sessions();
     }
     all_seen();
+    for (size_t n = 0; n < COUNT(takes); n++)
+        if (kept[n] == 0)
+            differs(AT, "no check of operation %u was accepted and kept", takes[n].operation);
 }

@@ -1,15 +1,16 @@
 -- The theorems on amounts that docs/PROOFS.md names. An amount is one of document 01: its mantissa is below 2^128.
-use Rattle.std.proofs.Common.{◌≡◌, ℕ, suc, ◌+◌, ◌-◌, ◌*◌, ◌%◌, ◌^◌, ◌<◌, ◌≤◌, true, ◌&&◌, Result, Ok, Err, ltb, leb, ◌⊎◌, sym, refl, ap, ◌∙◌, ⊎_elim, mul_assoc, mul_comm, add-mul, le_antisymm, pow-suc, sub-add_cancel, mul_right_comm, arith, pow-add, leb-true}
+use Rattle.std.proofs.Common.{◌≡◌, ℕ, suc, ◌+◌, ◌-◌, ◌*◌, ◌%◌, ◌^◌, ◌<◌, ◌≤◌, true, ◌&&◌, Result, Ok, Err, ltb, leb, ◌⊎◌, sym, refl, ap, ◌∙◌, ⊎_elim, mul_assoc, mul_comm, add-mul, le_antisymm, pow-suc, sub-add_cancel, mul_right_comm, arith, pow-add, leb-true, lt-ltb, le-leb, mul-le-mul_right, le_of_mul-le-mul_right}
 use native.Mathlib.Nat.{eq_of_mul-eq-mul_right, mul-mod_left, le-max_left, le-max_right}
 use Rattle.std.proofs.lemmas.Bool.{cases_lt, and_parts}
 use Rattle.amount.specs.Numbers.{val, limit, halves}
 use Rattle.amount.specs.Canonical.{strip, lowest, whole_text, decimal_text, canonical_text}
 use Rattle.amount.specs.Texts.{digits_in, places_in, Same, SameValue, InRange, Canonical}
-use Rattle.amount.specs.Amounts.{read_of, compare_of, common_scale, mantissa_at, sum_of, difference_of, given_of}
+use Rattle.amount.specs.Amounts.{read_of, compare_of, common_scale, mantissa_at, amount_if, sum_of, difference_of, given_of}
 use Rattle.amount.specs.declared.Amount.{Amount}
 use Rattle.amount.specs.declared.AmountError.{AmountError}
 use Rattle.amount.specs.declared.AmountError.TheVariants.{NotWhole, Overflow, Underflow}
-use Rattle.std.specs.declared.cmp.Ordering.TheVariants.{Greater}
+use Rattle.std.specs.declared.cmp.Ordering.{Ordering}
+use Rattle.std.specs.declared.cmp.Ordering.TheVariants.{Less, Equal, Greater}
 use Rattle.amount.proofs.Scaling.{ten_pos, ten_join}
 use Rattle.amount.proofs.Cutting.{cut, cut_digits, cut_places, canonical, whole_number, whole_length, whole_digits, width_some}
 use Rattle.amount.proofs.Assembling.{width_few}
@@ -146,3 +147,20 @@ module _ (a b : Amount) where
         let f = if_is Underflow (ltb p limit && leb q p) (p - q) larger c (sym e) in
         let l : q ≤ p = leb-true q p (and_parts (ltb p limit) (leb q p) f.0).1 in
         rw (f.2, val_halves (p - q)) (omega (arith, add-mul (p - q) q scales, ap (λ (z : ℕ). z * scales) (sub-add_cancel l), first_part, second_part))
+
+-- A difference is given where rescaling stays within 128 bits and nothing more is taken than there is.
+not_less : (o : Ordering) (x y : ℕ) → OrderFact o x y → (o ≡ Less → ⊥) → y ≤ x
+not_less Less x y f z = absurd (z refl)
+not_less Equal x y f z = omega arith
+not_less Greater x y f z = omega arith
+
+module _ (a b : Amount) where
+  pub difference_is_given : mantissa_at a (larger a b) < limit → (compare_of a b ≡ Less → ⊥) → (c : Amount) × (difference_of a b ≡ Ok c)
+  unfolding difference_of amount_if
+  difference_is_given f z =
+      let p : ℕ = mantissa_at a (larger a b) in
+      let q : ℕ = mantissa_at b (larger a b) in
+      let l : q * scales a b ≤ p * scales a b =
+      rw (first_part a b, second_part a b) (mul-le-mul_right (10 ^ larger a b) (not_less _ _ _ (order_is_exact a b) z)) in
+      let k : q ≤ p = le_of_mul-le-mul_right l (rw (← pow-add 10 a.scale b.scale) (ten_pos (a.scale + b.scale))) in
+      (record { mantissa = halves (p - q); scale = larger a b }, rw (lt-ltb p limit f, le-leb q p k, lt-ltb (p - q) limit (omega arith)))

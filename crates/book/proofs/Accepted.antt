@@ -2,43 +2,29 @@
 -- within the balance. They hold for any way to read an input amount that gives whole numbers.
 use mathlib.Core.Path.{◌≡◌, refl, ap, ◌∙◌}
 use mathlib.Core.Logic.{◌≢◌}
-use mathlib.Core.Bool.{Bool, true, false, cond, ◌&&◌}
+use mathlib.Core.Bool.{Bool, true, false, cond}
 use mathlib.Core.List.{List, ◌∷◌}
 use Prim.Native.Nat.{ℕ, ◌*◌, ◌<◌, ◌≤◌}
 use native.Mathlib.Omega.{arith}
-use lib.Dec.{eqb, leb, ltb}
-use lib.ListN.{length}
-use borrow.Author.Tests.{eqb-false, ne_eqb, ltb-true}
+use lib.Dec.{eqb}
+use borrow.Author.Tests.{eqb-false, ne_eqb}
 use Rattle.amount.specs.Numbers.{val, limit, halves, order_of}
-use Rattle.amount.specs.Decimal.{all_digits, decimal}
-use Rattle.amount.specs.Amounts.{read_of, amount_if, compare_of}
+use Rattle.amount.specs.Amounts.{compare_of}
 use Rattle.amount.specs.declared.Amount.{Amount}
 use Rattle.std.specs.declared.cmp.Ordering.{Ordering}
 use Rattle.std.specs.declared.cmp.Ordering.TheVariants.{Less, Equal, Greater}
 use Rattle.amount.proofs.Halves.{OrderFact, order_fact, val_halves}
-use Rattle.sheet.specs.Fields.{Field, absent, text, figure, other, amount}
-use Rattle.registry.proofs.Tests.{refused_never}
-use Rattle.registry.specs.Readers.{marked, parsed, given_or, amount_by, amount_in, amount_of, readable, on_amount}
+use Rattle.sheet.specs.Fields.{Field, balance, amount}
+use Rattle.registry.proofs.Tests.{refused_never, then_both, Drawn, drawn}
+use Rattle.registry.proofs.Readers as Readers
+use Rattle.registry.specs.Readers.{amount_in, amount_of, readable, on_amount}
 use Rattle.registry.specs.Tests.{◌then◌, above_zero, held_by, unless_less, state_there, first, born}
-use Rattle.registry.specs.declared.error.ProfileError.{ProfileError}
-use Rattle.registry.specs.declared.error.ProfileError.TheVariants.{NonPositiveAmount, InsufficientQuantity, NotWhole, FloatForbidden}
-use Rattle.registry.specs.Refusals.{Outcome, Reading}
+use Rattle.registry.specs.declared.error.ProfileError.TheVariants.{NonPositiveAmount, InsufficientQuantity}
+use Rattle.registry.specs.Refusals.{Reading}
 use Rattle.profiles.specs.Balance.{debited, credited}
 use Rattle.book.specs.Places.{place_view}
-use Rattle.std.specs.Prelude.{Result, Ok, Err}
-use Rattle.amount.specs.declared.AmountError.{AmountError}
-
--- a whole amount
-abbrev pub whole_amount : ℕ → Amount
-whole_amount n = record { mantissa = halves n; scale = 0 }
-
-failed_never : {A : Type 0} (e : ProfileError) (a : Amount) → Err e ≡ Ok a → A
-failed_never e a h = let z : ◌≡◌ {A = ℕ} 0 1 = cc in absurd (omega arith)
-
--- both of two tests
-pub then_both : (x y : Outcome) → (x then y) ≡ Ok tt → (x ≡ Ok tt) × (y ≡ Ok tt)
-then_both (Ok _) y h = (refl, h)
-then_both (Err e) y h = refused_never e h
+use Rattle.book.specs.Book.{whole_amount}
+use Rattle.std.specs.Prelude.{Ok, Err}
 
 pub above_zero_lem : (a : Amount) → above_zero a ≡ Ok tt → 0 < val a.mantissa
 unfolding above_zero
@@ -136,15 +122,12 @@ module _ (read : ℕ → Field → Reading) (reads : Whole read) (s u : List ℕ
   module _ (whole-balance : b.scale ≡ 0) where
     pub debit_accepted : first read (place_view s u b) inp (born ∷ debited) ≡ Ok tt → Within read (inp amount) b
     unfolding state_there amount_of
-    debit_accepted h = go (read amount (inp amount)) refl h
-      where
-        go : (r : Reading) → read amount (inp amount) ≡ r → (readable r then on_amount r above_zero then on_amount r (held_by b) then Ok tt) ≡ Ok tt → Within read (inp amount) b
-        go (Err e) q k = refused_never e k
-        go (Ok a) q k =
-            let both : (above_zero a ≡ Ok tt) × ((held_by b a then Ok tt) ≡ Ok tt) = then_both (above_zero a) (held_by b a then Ok tt) k in
-            let w : Positive read (inp amount) = given_positive a q both.0 in
-            let e : a ≡ whole_amount w.asked.number = cc (q, w.asked.given) in
-            record { some = w; within = held_fact w.asked.number b whole-balance (rw e at (then_both (held_by b a) (Ok tt) both.1).0) }
+    debit_accepted h =
+        let d : Drawn read (place_view s u b) inp balance amount = drawn read (place_view s u b) inp balance amount h in
+        let w : Positive read (inp amount) = given_positive d.taken d.taken_is d.positive in
+        let e : d.taken ≡ whole_amount w.asked.number = cc (d.taken_is, w.asked.given) in
+        let f : b ≡ d.from = cc (d.from_is) in
+        record { some = w; within = held_fact w.asked.number b whole-balance (rw (e, ← f) at d.within) }
 
     pub debit_accepts : Within read (inp amount) b → first read (place_view s u b) inp (born ∷ debited) ≡ Ok tt
     unfolding state_there amount_of
@@ -152,25 +135,7 @@ module _ (read : ℕ → Field → Reading) (reads : Whole read) (s u : List ℕ
         rw (w.some.asked.given, above_number w.some.asked.number w.some.positive, fact_held w.some.asked.number b whole-balance w.within)
 
 -- document 01's reader is one
-read_whole : (t : List ℕ) (a : Amount) → read_of t ≡ Ok a → (decimal t < limit) × (a ≡ whole_amount (decimal t))
-unfolding read_of amount_if
-read_whole t a h = go (leb 1 (length t) && leb (length t) 39 && all_digits t) (ltb (decimal t) limit) refl h
-  where
-    go : (p q : Bool) → ltb (decimal t) limit ≡ q → cond (p && q) (Ok (whole_amount (decimal t))) (Err AmountError.NotWhole) ≡ Ok a → (decimal t < limit) × (a ≡ whole_amount (decimal t))
-    go true true e k = (ltb-true (decimal t) limit e, cc)
-    go true false e k = let z : ◌≡◌ {A = ℕ} 0 1 = cc in absurd (omega arith)
-    go false q e k = let z : ◌≡◌ {A = ℕ} 0 1 = cc in absurd (omega arith)
-
 pub amount_in_whole : Whole amount_in
-unfolding amount_by parsed
-amount_in_whole absent a h = failed_never _ a h
-amount_in_whole (figure b) a h = failed_never _ a h
-amount_in_whole other a h = failed_never _ a h
-amount_in_whole (text t) a h = go (marked t) refl (read_of t) refl h
-  where
-    go : (m : Bool) → marked t ≡ m → (o : (Result Amount AmountError)) → read_of t ≡ o → cond m (Err (FloatForbidden amount)) (given_or (NotWhole amount) o) ≡ Ok a → Asked amount_in (text t)
-    go true e o q k = failed_never (FloatForbidden amount) a k
-    go false e (Ok b) q k = let w : (decimal t < limit) × (b ≡ whole_amount (decimal t)) = read_whole t b q in record { number = decimal t; fits = w.0; given = rw (e, q, w.1) }
-    go false e (Err AmountError.NotWhole) q k = failed_never (NotWhole amount) a k
-    go false e (Err AmountError.Overflow) q k = failed_never (NotWhole amount) a k
-    go false e (Err AmountError.Underflow) q k = failed_never (NotWhole amount) a k
+amount_in_whole f a h =
+    let w = Readers.amount_in_whole amount f a h in
+    record { number = w.0; fits = w.1; given = h ∙ ap Ok w.2 }

@@ -18,6 +18,7 @@ use Rattle.sheet.specs.declared.Shape.TheVariants.{Input}
 use Rattle.sheet.specs.declared.State.{State}
 use Rattle.writer.specs.Encode.{balance_sheet}
 use Rattle.writer.proofs.RoundTrip.{Sized, Back, balance_back}
+use Rattle.registry.proofs.Tests.{among_each}
 use Rattle.registry.specs.Readers.{amount_in}
 use Rattle.registry.specs.Refusals as profile
 use Rattle.registry.specs.Call.{state_sound, input_sound, profile_of, operation_of, called}
@@ -31,7 +32,6 @@ use Rattle.book.specs.Refusals.{book_answer_of, BookOutcome}
 use Rattle.book.specs.Steps.{Open, Act, Begin, credits_in, bytes_in, adds, acts, same_bytes, said, sheet_sound, sent_to, seen, answer}
 use Rattle.book.specs.declared.Name.{Name}
 use Rattle.book.specs.declared.Book.{Book}
-use Rattle.book.proofs.Rows.{among_all}
 use Rattle.book.proofs.Formed.{Formed, formed, and_l, and_r}
 use Rattle.book.proofs.Views.{place_raw}
 use Rattle.book.proofs.Invariant.{is_none}
@@ -159,7 +159,7 @@ Balances o = profile_of o ≡ 2
 
 pub of_balances : (o : ℕ) → acts o ≡ true → profile_of o ≡ 2
 unfolding acts Balances
-of_balances o = among_all Balances (12 ∷ 13 ∷ 14 ∷ 16 ∷ 17 ∷ 18 ∷ 19 ∷ []) (refl, (refl, (refl, (refl, (refl, (refl, (refl, tt))))))) o
+of_balances o = among_each Balances (12 ∷ 13 ∷ 14 ∷ 16 ∷ 17 ∷ 18 ∷ 19 ∷ []) (refl, (refl, (refl, (refl, (refl, (refl, (refl, tt))))))) o
 
 pub closed_seen : (b : Book) (p : ℕ) → is_some (place_at b p) ≡ false → (seen b).place p ≡ closed_view
 unfolding seen

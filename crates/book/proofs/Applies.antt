@@ -13,13 +13,12 @@ use borrow.Author.Tests.{ne_eqb, ltb-true, leb-true}
 use Rattle.amount.specs.Amounts.{sum_of, difference_of}
 use Rattle.amount.specs.declared.Amount.{Amount}
 use Rattle.sheet.specs.Fields.{Field, text, field, subject, unit, balance, amount, to_subject, authorized_by}
-use Rattle.registry.proofs.Tests.{refused_never}
+use Rattle.registry.proofs.Tests.{refused_never, then_both, among_each}
 use Rattle.registry.specs.Readers.{amount_in, amount_of, readable, read_amount, text_in, text_of}
 use Rattle.registry.specs.Tests.{Test, born, in_text, first, state_absent, state_there}
 use Rattle.registry.specs.Refusals.{Reading}
 use Rattle.profiles.specs.Balance.{credited, debited, balance_rules}
 use Rattle.book.specs.Places.{place_view, closed_view}
-use Rattle.book.proofs.Accepted.{then_both}
 use Rattle.resource_state.specs.Next.{balance_of, Next}
 use Rattle.resource_state.specs.Apply.{balance_next}
 use Rattle.transition.specs.Credit.{credit_by}
@@ -29,7 +28,6 @@ use Rattle.book.specs.Book.{credits, whole_amount, name_bytes, name_ok, place_re
 use Rattle.book.specs.Steps.{Open, Act, Begin, credits_in, adds, acts, changed, seen, sent_to, held_at, answer}
 use Rattle.book.specs.declared.Name.{Name}
 use Rattle.book.specs.declared.Book.{Book}
-use Rattle.book.proofs.Rows.{among_all}
 use Rattle.book.proofs.Facts.{accepted_tests, Opens, opens, Acts, acts_so, Begins, begins}
 use Rattle.book.proofs.Formed.{Formed, formed, and_l, and_r}
 use Rattle.book.proofs.Views.{place_raw, open_lt}
@@ -57,7 +55,7 @@ module _ (s u : List ℕ) (b : Amount) (inp : ℕ → Field) (hs : 0 < length s)
 
   act_applied : (o : ℕ) → acts o ≡ true → Applied o
   unfolding Applied acts adds balance_next state_there text_of amount_of
-  act_applied o k = among_all Applied (12 ∷ 13 ∷ 14 ∷ 16 ∷ 17 ∷ 18 ∷ 19 ∷ []) (up, (up, (down, (down, (up, (down, (down, tt))))))) o k
+  act_applied o k = among_each Applied (12 ∷ 13 ∷ 14 ∷ 16 ∷ 17 ∷ 18 ∷ 19 ∷ []) (up, (up, (down, (down, (up, (down, (down, tt))))))) o k
     where
       up : (r : Amount) → sum_of b a ≡ Ok r → balance_next amount_in (place_view s u b) inp 12 ≡ made (State subject) (State unit) r
       up r h = rw (full s hs, full u hu, ha, h)
@@ -94,7 +92,7 @@ module _ (s u : List ℕ) (b : Amount) (inp : ℕ → Field) where
   unfolding Reads Row-reads acts balance_rules
   act_reads o k h =
       given_so (amount_in amount (inp amount))
-      (among_all Reads (12 ∷ 13 ∷ 14 ∷ 16 ∷ 17 ∷ 18 ∷ 19 ∷ [])
+      (among_each Reads (12 ∷ 13 ∷ 14 ∷ 16 ∷ 17 ∷ 18 ∷ 19 ∷ [])
       (reads_with authorized_by credited reads_credited, (reads_credited, (reads_debited, (reads_debited, (reads_credited, (reads_debited, (reads_with authorized_by debited reads_debited, tt))))))) o k h)
 
   transfer_reads : balance_rules amount_in (place_view s u b) inp 15 ≡ Ok tt → (text_in to_subject (inp to_subject) ≡ Ok tt) × (amount_in amount (inp amount) ≡ Ok (read_amount (amount_in amount (inp amount))))

@@ -1,28 +1,25 @@
 -- Where a step is accepted, on any book value, the arithmetic of amounts gives what its effect stores: reading an amount gives a whole
 -- one, and neither 17 nor 18 arises.
 use mathlib.Core.Path.{◌≡◌, refl, sym, ap, ◌∙◌}
-use mathlib.Core.Bool.{Bool, true, false, cond, ◌&&◌, false≢true}
+use mathlib.Core.Bool.{Bool, true, false, false≢true}
 use mathlib.Core.Option.{none}
 use mathlib.Core.List.{List}
 use Prim.Native.Nat.{ℕ, ◌+◌, ◌-◌, ◌^◌, ◌≤◌, ◌<◌, max}
 use native.Mathlib.Omega.{arith}
-use lib.Dec.{leb, ltb}
-use lib.ListN.{length}
+use lib.Dec.{leb}
 use borrow.Author.Tests.{lt-ltb, le-leb, leb-false}
 use Rattle.amount.specs.Numbers.{val, limit, halves}
-use Rattle.amount.specs.Decimal.{all_digits, decimal}
-use Rattle.amount.specs.Amounts.{amount_if, read_of, mantissa_at, common_scale, sum_of, difference_of}
+use Rattle.amount.specs.Amounts.{amount_if, mantissa_at, common_scale, sum_of, difference_of}
 use Rattle.amount.specs.declared.Amount.{Amount}
 use Rattle.amount.proofs.Halves.{val_halves}
-use Rattle.sheet.specs.Fields.{Field, absent, text, figure, other, field, subject, unit, balance, amount, to_subject}
-use Rattle.registry.proofs.Tests.{refused_never}
+use Rattle.sheet.specs.Fields.{Field, text, field, subject, unit, balance, amount, to_subject}
+use Rattle.registry.proofs.Tests.{refused_never, then_both}
+use Rattle.registry.proofs.Readers.{amount_in_whole}
 use Rattle.registry.specs.Refusals.{zero_amount, Reading}
-use Rattle.registry.specs.Readers.{marked, parsed, given_or, amount_by, amount_in, readable, read_amount, text_in}
+use Rattle.registry.specs.Readers.{amount_in, readable, read_amount, text_in}
 use Rattle.registry.specs.Tests.{state_absent}
-use Rattle.registry.specs.declared.error.ProfileError.TheVariants.{NotWhole, FloatForbidden}
 use Rattle.profiles.specs.Balance.{balance_rules}
 use Rattle.book.specs.Places.{place_view, closed_view, put_field}
-use Rattle.book.proofs.Accepted.{then_both}
 use Rattle.book.specs.Book.{credits, whole_amount, name_bytes, place_record, transfer_record, place_at, transfer_at, stock_of, carried_by, balances, credits_under_way, total, is_some}
 use Rattle.book.specs.Steps.{Open, Act, Begin, credits_in, Doing, Issuing, Taking, doing, adds, seen, held_at, answer}
 use Rattle.book.specs.declared.Book.{Book}
@@ -35,7 +32,6 @@ use Rattle.book.proofs.Views.{place_raw, transfer_raw, open_lt}
 use Rattle.book.proofs.Invariant.{view_there, is_none}
 use Rattle.book.proofs.Endings.{ending, end, Ended, ended}
 use Rattle.std.specs.Prelude.{Ok, Err}
-use Rattle.amount.specs.declared.AmountError.{AmountError}
 
 -- ---- amounts
 
@@ -48,18 +44,13 @@ unfolding val halves
 zero_whole = refl
 
 amount_whole : (n : ℕ) (f : Field) → read_amount (amount_in n f) ≡ whole_amount (credits (read_amount (amount_in n f)))
-unfolding amount_by parsed read_of amount_if
-amount_whole n absent = zero_whole
-amount_whole n (figure a) = zero_whole
-amount_whole n other = zero_whole
-amount_whole n (text t) = go (marked t) (leb 1 (length t) && leb (length t) 39 && all_digits t && ltb (decimal t) limit)
+amount_whole n f = go (amount_in n f) refl
   where
-    go : (m q : Bool)
-        → read_amount (cond m (Err (FloatForbidden n)) (given_or (NotWhole n) (cond q (Ok (whole_amount (decimal t))) (Err AmountError.NotWhole))))
-        ≡ whole_amount (credits (read_amount (cond m (Err (FloatForbidden n)) (given_or (NotWhole n) (cond q (Ok (whole_amount (decimal t))) (Err AmountError.NotWhole))))))
-    go true q = zero_whole
-    go false true = ap whole_amount (sym (val_halves (decimal t)))
-    go false false = zero_whole
+    go : (r : Reading) → amount_in n f ≡ r → read_amount r ≡ whole_amount (credits (read_amount r))
+    go (Err e) q = zero_whole
+    go (Ok a) q =
+        let w = amount_in_whole n f a q in
+        rw (w.2, val_halves w.0)
 
 pub asked_whole : (name : ℕ) (i : List ℕ) → asked name i ≡ whole_amount (credits_in name i)
 unfolding credits_in

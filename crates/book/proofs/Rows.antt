@@ -1,24 +1,24 @@
 -- The balance profile's rows at a place: what an accepted check says of the amount, and that a place which holds more accepts it too.
-use mathlib.Core.Path.{◌≡◌, refl, sym, ap, ◌∙◌, subst}
-use mathlib.Core.Bool.{Bool, true, false, cond, true≢false, false≢true}
+use mathlib.Core.Path.{◌≡◌, refl, ap, ◌∙◌}
+use mathlib.Core.Bool.{Bool, true, false, cond, true≢false}
 use mathlib.Core.List.{List, [], ◌∷◌}
 use Prim.Native.Nat.{ℕ, ◌≤◌, ◌<◌}
 use native.Mathlib.Nat.{le_trans}
 use native.Mathlib.Omega.{arith}
 use lib.Dec.{eqb}
 use lib.ListN.{length}
-use borrow.Author.Tests.{eqb-true, eqb-false}
+use borrow.Author.Tests.{eqb-false}
 use Rattle.amount.specs.declared.Amount.{Amount}
 use Rattle.amount.proofs.Halves.{val_halves}
 use Rattle.sheet.specs.Fields.{Field, absent, text, figure, other, field, Sight, subject, amount, to_subject, authorized_by}
-use Rattle.registry.proofs.Tests.{refused_never}
+use Rattle.registry.proofs.Tests.{refused_never, then_both, among_each}
 use Rattle.registry.specs.Readers.{amount_in, amount_of, read_amount, text_in, bytes_of}
-use Rattle.registry.specs.Tests.{state_there, state_absent, Test, first, born, in_text, among}
+use Rattle.registry.specs.Tests.{state_there, state_absent, Test, first, born, in_text}
 use Rattle.registry.specs.declared.error.ProfileError.TheVariants.{Empty}
 use Rattle.registry.specs.Refusals.{Outcome}
 use Rattle.profiles.specs.Balance.{balance_rules, debited, credited}
 use Rattle.book.specs.Places.{place_view, closed_view}
-use Rattle.book.proofs.Accepted.{Within, then_both, debit_accepted, debit_accepts, amount_in_whole}
+use Rattle.book.proofs.Accepted.{Within, debit_accepted, debit_accepts, amount_in_whole}
 use Rattle.book.specs.Book.{credits}
 use Rattle.book.specs.Steps.{adds, acts, Doing, Issuing, Taking, doing, bytes_in}
 use Rattle.std.specs.Prelude.{Ok, Err}
@@ -42,19 +42,6 @@ unfolding balance_rules state_absent bytes_in
 create_subject i h = text_there subject (field i subject) (then_both (text_in subject (field i subject)) _ h).0
 
 -- ---- the operations of act, and transfer
-
--- what holds of each number of a list holds of every number that is among them
-abbrev pub All : (ℕ → Type 0) → List ℕ → Type 0
-All P [] = Unit {0}
-All P (n ∷ ns) = P n × All P ns
-
-pub among_all : (P : ℕ → Type 0) (l : List ℕ) → All P l → (o : ℕ) → among o l ≡ true → P o
-among_all P [] a o h = absurd (false≢true h)
-among_all P (n ∷ ns) a o h = go (eqb o n) refl (λ k. among_all P ns a.1 o k)
-  where
-    go : (x : Bool) → eqb o n ≡ x → (among o ns ≡ true → P o) → P o
-    go true e r = subst P (sym (eqb-true o n e)) a.0
-    go false e r = r (rw e at h)
 
 -- whether an operation adds, by what it does
 abbrev pub rises : Doing → Bool
@@ -118,7 +105,7 @@ module _ (s u : List ℕ) (b : Amount) (scaled : b.scale ≡ 0) (inp : ℕ → F
       → Affords b inp (adds o) (λ v. balance_rules amount_in v inp o)
   unfolding Operation-affords Row-affords acts adds balance_rules
   act_affords o k =
-      among_all Operation-affords (12 ∷ 13 ∷ 14 ∷ 16 ∷ 17 ∷ 18 ∷ 19 ∷ [])
+      among_each Operation-affords (12 ∷ 13 ∷ 14 ∷ 16 ∷ 17 ∷ 18 ∷ 19 ∷ [])
       (minting, (adding, (taking, (taking, (adding, (taking, (taking_with authorized_by, tt))))))) o k
 
   pub transfer_affords : balance_rules amount_in (place_view s u b) inp 15 ≡ Ok tt → Affords b inp false (λ v. balance_rules amount_in v inp 15)

@@ -1,21 +1,27 @@
--- Laws of the readers: a field that is not of the kind that is asked, and the marks of a fraction.
-use mathlib.Core.Path.{◌≡◌, refl, ap}
+-- Laws of the readers: a field that is not of the kind that is asked, the marks of a fraction, and what a reading that succeeds was made of.
+use mathlib.Core.Path.{◌≡◌, refl, sym, ap, ◌∙◌}
 use mathlib.Core.Bool.{Bool, true, false, cond, ◌&&◌, ◌||◌, and-false, false≢true}
 use mathlib.Core.List.{List, [], ◌∷◌}
 use mathlib.Core.Logic.{◌≢◌}
-use Prim.Native.Nat.{ℕ}
+use Prim.Native.Nat.{ℕ, ◌<◌}
+use native.Mathlib.Omega.{arith}
 use lib.Dec.{eqb}
+use lib.ListN.{length}
 use borrow.Author.Tests.{ne_eqb, eqb-true}
 use Rattle.amount.specs.Amounts.{read_of}
-use Rattle.amount.specs.Decimal.{is_digit, all_digits}
+use Rattle.amount.specs.Numbers.{limit, halves}
+use Rattle.amount.specs.Decimal.{is_digit, all_digits, decimal}
+use Rattle.amount.specs.declared.Amount.{Amount}
+use Rattle.amount.specs.declared.AmountError.{AmountError}
 use Rattle.std.specs.List.{list_any}
-use Rattle.amount.proofs.Reading.{read_not_digits}
+use Rattle.amount.proofs.Reading.{read_not_digits, if_is}
 use Rattle.sheet.specs.Amounts.{amount_at}
 use Rattle.sheet.specs.Fields.{Field, absent, text, figure, other, field_of_kind}
-use Rattle.registry.specs.Readers.{marked, is_mark, bytes_of, given_or, parsed, amount_by, amount_in}
+use Rattle.registry.specs.Readers.{marked, is_mark, text_of, bytes_of, given_or, parsed, amount_by, amount_in, amount_of}
 use Rattle.registry.specs.Helpers.{read_in, fault_in}
+use Rattle.registry.proofs.Tests.{failed_never}
 use Rattle.registry.specs.declared.error.ProfileError.TheVariants.{NotWhole, FloatForbidden}
-use Rattle.std.specs.Prelude.{Err}
+use Rattle.std.specs.Prelude.{Result, Ok, Err}
 
 -- what is not a text is an amount or a value that is no string, and a reader that answers both alike answers so
 pub not_text : {A : Type 0} (f : Field → A) (x : A) (kind : ℕ) (body : List ℕ) → x ≡ f (figure (amount_at body 0)) → x ≡ f other → kind ≢ 1 → x ≡ f (field_of_kind kind body)
@@ -65,3 +71,35 @@ pub any_marked : (t : List ℕ) → list_any is_mark t ≡ marked t
 unfolding marked
 any_marked [] = refl
 any_marked (b ∷ t) = ap (λ (r : Bool). is_mark b || r) (any_marked t)
+
+-- an amount that was read of an input is whole
+pub amount_in_whole : (n : ℕ) (f : Field) (a : Amount) → amount_in n f ≡ Ok a → (k : ℕ) × (k < limit) × (a ≡ record { mantissa = halves k; scale = 0 })
+unfolding amount_by parsed read_of
+amount_in_whole n absent a h = failed_never _ a h
+amount_in_whole n (figure b) a h = failed_never _ a h
+amount_in_whole n other a h = failed_never _ a h
+amount_in_whole n (text t) a h = go (marked t) (read_of t) refl h
+  where
+    go : (m : Bool) (o : Result Amount AmountError) → read_of t ≡ o → cond m (Err (FloatForbidden n)) (given_or (NotWhole n) o) ≡ Ok a
+        → (k : ℕ) × (k < limit) × (a ≡ record { mantissa = halves k; scale = 0 })
+    go true o e k = failed_never _ a k
+    go false (Ok b) e k =
+        let w = if_is AmountError.NotWhole _ (decimal t) 0 a (sym (e ∙ ap Ok cc)) in
+        (decimal t, w.1, w.2)
+    go false (Err x) e k = failed_never _ a k
+
+-- a state's amount that was read is the field
+pub amount_of_is : (n : ℕ) (f : Field) (a : Amount) → amount_of n f ≡ Ok a → f ≡ figure a
+unfolding amount_of
+amount_of_is n absent a h = failed_never _ a h
+amount_of_is n (text t) a h = failed_never _ a h
+amount_of_is n (figure b) a h = ap figure cc
+amount_of_is n other a h = failed_never _ a h
+
+-- a state's text that has a byte passes its test
+pub text_of_filled : (n : ℕ) (f : Field) → 0 < length (bytes_of f) → text_of n f ≡ Ok tt
+unfolding bytes_of text_of
+text_of_filled n absent h = absurd (omega arith)
+text_of_filled n (text t) h = rw (ne_eqb (length t) 0 (λ e. absurd (omega arith)))
+text_of_filled n (figure a) h = absurd (omega arith)
+text_of_filled n other h = absurd (omega arith)

@@ -97,3 +97,14 @@ module _ (s : List ℕ) where
   meter_is h =
       let t = third_is meter_form s (formed_so meter_form s h) in
       rw (filled Meter s h, no_stack s (omega (arith, t)), no_balance s (omega (arith, t)), h)
+
+  -- back, of a meter
+  pub meter_sound : state_of s ≡ State.Meter → sound_as Meter s ≡ true
+  meter_sound = go (eqb (length s) 0) (sound_as Stack s) (sound_as Balance s) (sound_as Meter s)
+    where
+      go : (a b c d : Bool) → cond a State.Absent (cond b State.Stack (cond c State.Balance (cond d State.Meter State.Torn))) ≡ State.Meter → d ≡ true
+      go a b c true h = refl
+      go true b c false h = let z : ◌≡◌ {A = ℕ} 0 1 = cc in absurd (omega arith)
+      go false true c false h = let z : ◌≡◌ {A = ℕ} 0 1 = cc in absurd (omega arith)
+      go false false true false h = let z : ◌≡◌ {A = ℕ} 0 1 = cc in absurd (omega arith)
+      go false false false false h = let z : ◌≡◌ {A = ℕ} 0 1 = cc in absurd (omega arith)

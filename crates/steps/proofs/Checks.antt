@@ -14,7 +14,7 @@ use Rattle.registry.specs.Tests.{◌then◌, state_absent, state_there, above_ze
 use Rattle.registry.specs.Refusals.{Outcome, Reading}
 use Rattle.registry.specs.declared.error.ProfileError.{ProfileError}
 use Rattle.registry.specs.declared.error.ProfileError.TheVariants.{Empty, InsufficientQuantity}
-use Rattle.registry.proofs.Tests.{then_end}
+use Rattle.registry.proofs.Tests.{then_end, among_each}
 use Rattle.profiles.specs.Balance.{balance_rules, debited}
 use Rattle.book.specs.Sets.{has}
 use Rattle.book.specs.Places.{place_view, put_field}
@@ -25,7 +25,6 @@ use Rattle.book.specs.declared.error.BookError.TheVariants.{Profile}
 use Rattle.book.proofs.Accepted.{fact_held, held_short}
 use Rattle.book.proofs.Asking.{begin_debits}
 use Rattle.book.proofs.Effects.{asked_whole}
-use Rattle.book.proofs.Rows.{among_all}
 use Rattle.steps.specs.Turn.{authorized, authorizing}
 use Rattle.steps.proofs.Tested.{Here, place_open, check_at_lem, create_at}
 use Rattle.std.specs.Prelude.{Ok, Err}
@@ -57,7 +56,7 @@ module _ (s u : List ℕ) (held : Amount) (inp : ℕ → Field) where
       ≡ (authorizing o inp then amounts (adds o) held (amount_in amount (inp amount)))
   unfolding Ruled acts adds authorized balance_rules state_there amount_of
   act_rules o k =
-      among_all Ruled (12 ∷ 13 ∷ 14 ∷ 16 ∷ 17 ∷ 18 ∷ 19 ∷ [])
+      among_each Ruled (12 ∷ 13 ∷ 14 ∷ 16 ∷ 17 ∷ 18 ∷ 19 ∷ [])
       (rw then_end, (rw then_end, (rw then_end, (rw then_end, (rw then_end, (rw then_end, (rw then_end, tt))))))) o k
 
   -- debit's list is its amount, 14 and 15

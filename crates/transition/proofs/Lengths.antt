@@ -1,5 +1,5 @@
 -- Laws of lengths: the texts of a sound sheet have at most 256 bytes, so the length of a written sheet fits 16 bits.
-use mathlib.Core.Path.{◌≡◌, refl}
+use mathlib.Core.Path.{◌≡◌, refl, sym}
 use mathlib.Core.Bool.{Bool, true, false, cond}
 use mathlib.Core.List.{List, [], ◌∷◌, ◌++◌}
 use Prim.Native.Nat.{ℕ, ◌+◌, ◌<◌, ◌≤◌}
@@ -18,6 +18,7 @@ use Rattle.registry.specs.Call.{state_sound, input_sound, operation_of, called}
 use Rattle.registry.specs.Tests.{◌then◌}
 use Rattle.registry.specs.Refusals.{Outcome}
 use Rattle.registry.specs.Readers.{bytes_of}
+use Rattle.registry.proofs.Tests.{then_both}
 use Rattle.registry.proofs.Readers.{no_bytes}
 use Rattle.resource_state.specs.Next.{text_from, sheet_of, unless_refused, Next}
 use Rattle.resource_state.specs.Apply.{next_of}
@@ -79,16 +80,12 @@ input_short false i e h =
 pub input_is_short : (i : List ℕ) → Ok tt ≡ input_sound (sound_as Input i) → ShortTexts i
 input_is_short i = input_short (sound_as Input i) i refl
 
-then_told : (a b : Outcome) → Ok tt ≡ (a then b) → (Ok tt ≡ a) × (Ok tt ≡ b)
-then_told (Ok _) b h = (refl, h)
-then_told (Err e) b h = let z : ◌≡◌ {A = ℕ} 0 1 = cc in absurd (omega arith)
-
 pub call_is_short : (profile op : ℕ) (s i : List ℕ) → Ok tt ≡ called profile op s i → ShortTexts s × ShortTexts i
 unfolding called
 call_is_short profile op s i h =
-    let t = then_told (state_sound 1 (state_of s)) (input_sound (sound_as Input i) then operation_of profile op) h in
-    let u = then_told (input_sound (sound_as Input i)) (operation_of profile op) t.1 in
-    (state_is_short s 1 t.0, input_is_short i u.0)
+    let t = then_both (state_sound 1 (state_of s)) (input_sound (sound_as Input i) then operation_of profile op) (sym h) in
+    let u = then_both (input_sound (sound_as Input i)) (operation_of profile op) t.1 in
+    (state_is_short s 1 (sym t.0), input_is_short i (sym u.0))
 
 -- so of both sheets where a next state is made
 short_where : {P : Type 0} (o : Outcome) (n : Next) → (Ok tt ≡ o → P) → IfOk (unless_refused o n) (λ _. P)
@@ -105,9 +102,9 @@ unfolding credit_of
 credit_is_short op s d i =
     short_where (state_sound 1 (state_of s) then state_sound 2 (state_of d) then input_sound (sound_as Input i)) _
     (λ h.
-    let t = then_told (state_sound 1 (state_of s)) (state_sound 2 (state_of d) then input_sound (sound_as Input i)) h in
-    let u = then_told (state_sound 2 (state_of d)) (input_sound (sound_as Input i)) t.1 in
-    (state_is_short s 1 t.0, input_is_short i u.1))
+    let t = then_both (state_sound 1 (state_of s)) (state_sound 2 (state_of d) then input_sound (sound_as Input i)) (sym h) in
+    let u = then_both (state_sound 2 (state_of d)) (input_sound (sound_as Input i)) t.1 in
+    (state_is_short s 1 (sym t.0), input_is_short i (sym u.1)))
 
 -- the sheet of a next state, and the length that is answered
 text_short : (s i : List ℕ) → ShortTexts s → ShortTexts i → (p : Part) → length (text_from (field s) (field i) p) ≤ 256

@@ -5,12 +5,11 @@ use mathlib.Core.List.{List, [], ◌∷◌}
 use Prim.Native.Nat.{ℕ, ◌/◌, ◌^◌, ◌<◌, ◌≤◌}
 use native.Mathlib.Omega.{arith}
 use native.Mathlib.Nat.{div-lt_iff_lt-mul, mod-lt}
-use lib.Dec.{eqb, leb, ltb}
+use lib.Dec.{eqb, ltb}
 use lib.ListN.{length}
 use borrow.Author.Tests.{ltb-true}
 use Rattle.amount.specs.Numbers.{limit, halves}
-use Rattle.amount.specs.Decimal.{all_digits, decimal}
-use Rattle.amount.specs.Amounts.{amount_if, read_of, compare_of, lesser_by, min_of, sum_of, difference_of}
+use Rattle.amount.specs.Amounts.{amount_if, compare_of, lesser_by, min_of, sum_of, difference_of}
 use Rattle.amount.specs.declared.Amount.{Amount}
 use Rattle.std.specs.declared.cmp.Ordering.{Ordering}
 use Rattle.std.specs.declared.cmp.Ordering.TheVariants.{Less, Equal, Greater}
@@ -20,11 +19,13 @@ use Rattle.sheet.specs.declared.Shape.TheVariants.{Input}
 use Rattle.sheet.specs.declared.State.{State}
 use Rattle.sheet.specs.declared.State.TheVariants as Kind
 use Rattle.registry.specs.Refusals.{zero_amount, Outcome, Reading}
-use Rattle.registry.specs.Readers.{marked, parsed, given_or, amount_by, amount_in, amount_of, read_amount}
+use Rattle.registry.specs.Readers.{given_or, amount_in, amount_of, read_amount}
+use Rattle.registry.proofs.Tests.{failed_never}
+use Rattle.registry.proofs.Readers.{amount_in_whole}
 use Rattle.registry.specs.Tests.{among, first, ◌then◌}
 use Rattle.registry.specs.Call.{called, state_sound, input_sound}
 use Rattle.registry.specs.declared.error.ProfileError.{ProfileError}
-use Rattle.registry.specs.declared.error.ProfileError.TheVariants.{FloatForbidden, NotWhole, UnknownOperation, NoCredit}
+use Rattle.registry.specs.declared.error.ProfileError.TheVariants.{UnknownOperation, NoCredit}
 use Rattle.writer.proofs.RoundTrip.{Sized, Back, stack_back, balance_back, meter_back}
 use Rattle.resource_state.specs.Next.{Gives, zero, given, kept, the_sum, the_difference, lesser, Makes, a_stack, a_balance, a_meter, ApplyRow, unless_refused, amount_for, made, applied, text_from, sheet_of, with_amount}
 use Rattle.resource_state.specs.Apply.{stack_applies, balance_applies, meter_applies, stack_next, balance_next, meter_next, next_by, next_of}
@@ -62,15 +63,13 @@ if_sized e o t m scale = go t (ltb m limit) refl
     go false u q = zero_sized
 
 asked_sized : (n : ℕ) (f : Field) → Sized (read_amount (amount_in n f))
-unfolding amount_by parsed read_of
-asked_sized n absent = zero_sized
-asked_sized n (figure a) = zero_sized
-asked_sized n other = zero_sized
-asked_sized n (text t) = go (marked t)
+asked_sized n f = go (amount_in n f) refl
   where
-    go : (b : Bool) → Sized (read_amount (cond b (Err (FloatForbidden n)) (given_or (NotWhole n) (amount_if AmountError.NotWhole (leb 1 (length t) && leb (length t) 39 && all_digits t) (decimal t) 0))))
-    go true = zero_sized
-    go false = if_sized (NotWhole n) AmountError.NotWhole (leb 1 (length t) && leb (length t) 39 && all_digits t) (decimal t) 0
+    go : (r : Reading) → amount_in n f ≡ r → Sized (read_amount r)
+    go (Err e) q = zero_sized
+    go (Ok a) q =
+        let w = amount_in_whole n f a q in
+        rw w.2 (halves_sized w.0 0 w.1)
 
 held_sized : (n : ℕ) (f : Field) → ((a : Amount) → f ≡ figure a → Sized a) → Sized (read_amount (amount_of n f))
 unfolding amount_of
@@ -128,11 +127,8 @@ module _ (s i : List ℕ) (bytes : Bytes s) (short : ShortTexts s × ShortTexts 
   Alike kind [] = Unit {0}
   Alike kind (r ∷ rs) = (kind_made r.makes ≡ kind) × Alike kind rs
 
-  refused_no_state : {A : Type 0} (e : ProfileError) (n : ResourceState) → Err e ≡ Ok n → A
-  refused_no_state e n h = let z : ◌≡◌ {A = ℕ} 0 1 = cc in absurd (omega arith)
-
   applied_written : (kind : State) (op : ℕ) (rs : List ApplyRow) → Alike kind rs → (n : ResourceState) → applied amount_in (sight_of s) (field i) op rs ≡ Ok n → WrittenAs s i kind n
-  applied_written kind op [] a n h = refused_no_state UnknownOperation n h
+  applied_written kind op [] a n h = failed_never UnknownOperation n h
   applied_written kind op (r ∷ rs) a n h = go (among op r.operations) (first amount_in (sight_of s) (field i) r.tests) (applied_written kind op rs a.1 n) h
     where
       go : (t : Bool) (o : Outcome) → (applied amount_in (sight_of s) (field i) op rs ≡ Ok n → WrittenAs s i kind n)
@@ -140,7 +136,7 @@ module _ (s i : List ℕ) (bytes : Bytes s) (short : ShortTexts s × ShortTexts 
       go true (Ok _) rest k =
           let e : made amount_in (sight_of s) (field i) r.makes ≡ n = cc in
           subst (λ x. WrittenAs s i kind x) e (subst (λ x. WrittenAs s i x (made amount_in (sight_of s) (field i) r.makes)) a.0 (made_written r.makes))
-      go true (Err e) rest k = refused_no_state e n k
+      go true (Err e) rest k = failed_never e n k
       go false o rest k = rest k
 
   pub stack_written : (op : ℕ) (n : ResourceState) → stack_next amount_in (sight_of s) (field i) op ≡ Ok n → WrittenAs s i Kind.Stack n
@@ -173,7 +169,7 @@ written_back p op s i n bytes h = go (called p op s i) refl h
 
     go : (o : Outcome) → called p op s i ≡ o → unless_refused o (next_by p op (sight_of s) (field i)) ≡ Ok n → WrittenAs s i (kind_of p) n
     go (Ok _) e k = by (eqb p 1) (eqb p 2) (call_is_short p op s i (sym e)) k
-    go (Err z) e k = let q : ◌≡◌ {A = ℕ} 0 1 = cc in absurd (omega arith)
+    go (Err z) e k = failed_never z n k
 
 -- ---- the far end of a transfer: of the operation's kind
 
@@ -192,7 +188,7 @@ module _ (s i : List ℕ) (short : ShortTexts s × ShortTexts i) (n : ResourceSt
   with_written kind make w (Ok a) z h =
       let e : make a ≡ n = cc in
       subst (λ x. WrittenAs s i kind x) e (w a z)
-  with_written kind make w (Err e) z h = let q : ◌≡◌ {A = ℕ} 0 1 = cc in absurd (omega arith)
+  with_written kind make w (Err e) z h = failed_never e n h
 
   stack_credited : (a : Amount) → Sized a → WrittenAs s i Kind.Stack (credited_stack a)
   unfolding sheet_of
@@ -222,7 +218,7 @@ credit_written_back op s d i n h =
         → WrittenAs s i (cond t Kind.Stack Kind.Balance) n
     by true u short k = with_written s i short n Kind.Stack credited_stack (stack_credited s i short n) (credited_amount amount_in (sight_of s) (sight_of d) (field i) quantity quantity) (sized quantity quantity) k
     by false true short k = with_written s i short n Kind.Balance credited_balance (balance_credited s i short n) (credited_amount amount_in (sight_of s) (sight_of d) (field i) balance amount) (sized balance amount) k
-    by false false short k = let q : ◌≡◌ {A = ℕ} 0 1 = cc in absurd (omega arith)
+    by false false short k = failed_never NoCredit n k
 
     go : (x y z : Outcome) (t u : Bool) → state_sound 1 (state_of s) ≡ x → input_sound (sound_as Input i) ≡ z
         → unless_refused (x then y then z)
@@ -230,6 +226,6 @@ credit_written_back op s d i n h =
         (cond u (with_amount (credited_amount amount_in (sight_of s) (sight_of d) (field i) balance amount) credited_balance) (Err NoCredit))) ≡ Ok n
         → WrittenAs s i (cond t Kind.Stack Kind.Balance) n
     go (Ok _) (Ok _) (Ok _) t u e f k = by t u (state_is_short s 1 (sym e), input_is_short i (sym f)) k
-    go (Ok _) (Ok _) (Err r) t u e f k = let q : ◌≡◌ {A = ℕ} 0 1 = cc in absurd (omega arith)
-    go (Ok _) (Err r) z t u e f k = let q : ◌≡◌ {A = ℕ} 0 1 = cc in absurd (omega arith)
-    go (Err r) y z t u e f k = let q : ◌≡◌ {A = ℕ} 0 1 = cc in absurd (omega arith)
+    go (Ok _) (Ok _) (Err r) t u e f k = failed_never r n k
+    go (Ok _) (Err r) z t u e f k = failed_never r n k
+    go (Err r) y z t u e f k = failed_never r n k
