@@ -1,7 +1,7 @@
 /* A gateway's book: three places, transfers that overlap both ways, refused steps among them, the transfers finished in
- * reverse, one that is cancelled, and a place that is closed and serves another node. After each step it prints the answer, the
- * balances, what is under way and the total. Then it hands over what no sender should send, and shows the copy to make where a
- * sheet stands in the book's own memory. */
+ * reverse, one that is cancelled, credits that are reserved and released, and a place that is closed and serves another node.
+ * After each step it prints the answer, each place's balance + what it has reserved, what is under way and the total. Then it
+ * hands over what no sender should send, and shows the copy to make where a sheet stands in the book's own memory. */
 #include <credits.h>
 #include <credits_sheet.h>
 #include <stdio.h>
@@ -55,7 +55,7 @@ static void print_answer(const char *what, credits_answer a)
     printf("\n");
 }
 
-/* The answer of a step, and the book after it. The total is what the places hold and what is under way. */
+/* The answer of a step, and the book after it. The total is what the places hold and have reserved and what is under way. */
 static void print_step(const char *what, credits_answer a, const credits_book *book)
 {
     credits_amount total = { { 0, 0 }, 0 };
@@ -66,7 +66,9 @@ static void print_step(const char *what, credits_answer a, const credits_book *b
             const credits_place *place = &book->places[p];
             printf(" %.*s", place->subject.len, (const char *)place->subject.bytes);
             print_amount(" ", place->balance);
+            print_amount("+", place->reserved);
             total = credits_amount_add(total, place->balance).amount;
+            total = credits_amount_add(total, place->reserved).amount;
         }
     for (unsigned t = 0; t < CREDITS_TRANSFERS; t++)
         if (book->pending >> t & 1) {
@@ -139,6 +141,11 @@ int main(void)
     print_step("begin 0: N1 to GW, 4", begin(&book, N1, GW, 0, asking(4)), &book); /* the wrong node was picked */
     print_step("cancel 0", credits_book_cancel(&book, 0), &book); /* back at N1 */
     print_step("cancel 0 again", credits_book_cancel(&book, 0), &book);
+
+    print_step("N1 reserves 3", act(&book, N1, CREDITS_BALANCE_RESERVE, asking(3)), &book);
+    print_step("N1 spends 2", act(&book, N1, CREDITS_BALANCE_SPEND, asking(2)), &book); /* what is reserved is not spent */
+    print_step("N1 releases 4", act(&book, N1, CREDITS_BALANCE_RELEASE, asking(4)), &book);
+    print_step("N1 releases 3", act(&book, N1, CREDITS_BALANCE_RELEASE, asking(3)), &book);
 
     print_step("close 1", credits_book_close(&book, N2), &book); /* N2 leaves, and its credits go to the gateway first */
     print_step("begin 0: N2 to GW, 4", begin(&book, N2, GW, 0, asking(4)), &book);

@@ -23,11 +23,11 @@
  * Stack. The deepest that was measured below each call on x86-64, in bytes, without the result's own memory. It is measured
  * on many inputs and not proved; docs/PERFORMANCE.md says how, and has estimates for a Cortex-M0.
  *
- *   credits_amount_read      128    credits_credit         1248    credits_book_finish      1000
- *   credits_amount_compare    56    credits_book_start      552    credits_book_cancel      1000
- *   credits_amount_add       112    credits_book_open      1216    credits_book_close       1000
- *   credits_amount_sub       112    credits_book_act       1216    credits_session_run      6784
- *   credits_amount_text      968    credits_book_begin     1216    credits_session_listing  8640
+ *   credits_amount_read      128    credits_credit         1248    credits_book_finish       856
+ *   credits_amount_compare    56    credits_book_start      552    credits_book_cancel       856
+ *   credits_amount_add       112    credits_book_open      1072    credits_book_close        856
+ *   credits_amount_sub       112    credits_book_act       1072    credits_session_run      5504
+ *   credits_amount_text      968    credits_book_begin     1072    credits_session_listing  5520
  *   credits_check           1312
  *   credits_apply           1456
  */
@@ -38,8 +38,9 @@
 #include <stdint.h>
 
 /* Goes up when a struct, a call or the meaning of a number changes, so that what was compiled or kept with another one no
- * longer fits. */
-#define CREDITS_VERSION 1
+ * longer fits. In version 1 a place had no reserved amount: no program that was compiled with it and no book that it kept
+ * fits this one. */
+#define CREDITS_VERSION 2
 
 /* ---- names */
 
@@ -75,7 +76,8 @@ enum {
     CREDITS_LONG_NAME = 27,   /* detail: the field */
     CREDITS_BAD_BOOK = 28,
     CREDITS_NOT_EMPTY = 29,
-    CREDITS_AWAITED = 30
+    CREDITS_AWAITED = 30,
+    CREDITS_NOT_RESERVED = 31
 };
 
 /* The detail of CREDITS_TORN_STATE. Check and apply have one state, their source. */
@@ -155,7 +157,7 @@ enum { CREDITS_LESS = 0, CREDITS_EQUAL = 1, CREDITS_GREATER = 2 };
 #define CREDITS_INPUT_MAX 2621     /* bytes of an input: all ten fields, each a text of 256 bytes */
 #define CREDITS_STEPS_MAX 255      /* steps of a session; its start is an entry more */
 #define CREDITS_SESSION_MAX 16384  /* bytes of a session */
-#define CREDITS_LISTING_MAX 4096   /* bytes that always hold a session's listing */
+#define CREDITS_LISTING_MAX 4608   /* bytes that always hold a session's listing */
 
 #ifdef __cplusplus
 extern "C" {
@@ -185,7 +187,9 @@ typedef struct {
 /* The first len bytes, at most 32. */
 typedef struct { uint8_t bytes[CREDITS_NAME_MAX]; uint8_t len; } credits_name;
 
-typedef struct { credits_name subject; credits_amount balance; } credits_place;
+/* What is reserved is not in the balance: act's reserve moves credits there, release moves them back, and no transfer and no
+ * other operation takes of them. */
+typedef struct { credits_name subject; credits_amount balance, reserved; } credits_place;
 
 /* Credits that have left place `from` and have not reached place `to`. */
 typedef struct { uint8_t from, to; credits_amount amount; } credits_transfer;
@@ -201,8 +205,10 @@ typedef struct { uint8_t from, to; credits_amount amount; } credits_transfer;
  *
  * Integers and arrays only: every byte pattern is a book. A step refuses by 28 (CREDITS_BAD_BOOK) a book whose total is
  * above 2^128 - 1, whose unit or an open place's subject is empty or over 32 bytes, with a scale other than 0, or with a
- * transfer under way that names a place that isn't open. 28 is no checksum: a book that was altered and passes it is taken
- * as it is. Where memory may fail, keep a checksum of your own. */
+ * transfer under way that names a place that isn't open. The total is the balances and the reserved amounts of the open
+ * places and what is under way; a scale is tested of every balance, reserved amount and transfer, of closed places and idle
+ * numbers too. 28 is no checksum: a book that was altered and passes it is taken as it is. Where memory may fail, keep a
+ * checksum of your own. */
 typedef struct {
     credits_name unit;
     uint16_t opened;
@@ -265,9 +271,12 @@ credits_answer credits_credit(uint8_t operation, const uint8_t *source, uint64_t
 credits_started credits_book_start(const uint8_t *unit, uint64_t unit_len);
 
 /* The steps, done in the book that is lent. Sheets are input sheets, as check takes them; act's operations are those of a
- * balance but create, transfer and convert. Finish puts the credits of a transfer at its destination, cancel puts them back at
- * its source; after both the number is free again. Close gives up a place that holds nothing and that no transfer under way
- * names at either end: its record is zeros then, and it may be opened again, under another subject. */
+ * balance but create, transfer and convert. CREDITS_BALANCE_RESERVE moves credits from a place's balance to its reserved
+ * amount and CREDITS_BALANCE_RELEASE moves them back, no more than are reserved there (31, CREDITS_NOT_RESERVED); neither
+ * moves the total. A balance sheet has no reserved amount: in its check and apply reserve takes and release adds. Finish puts
+ * the credits of a transfer at its destination, cancel puts them back at its source; after both the number is free again.
+ * Close gives up a place that holds neither credits nor reserved ones and that no transfer under way names at either end:
+ * its record is zeros then, and it may be opened again, under another subject. */
 credits_answer credits_book_open(credits_book *book, uint8_t place, const uint8_t *sheet, uint64_t sheet_len);
 credits_answer credits_book_act(credits_book *book, uint8_t place, uint8_t operation, const uint8_t *sheet,
                                 uint64_t sheet_len);
@@ -300,7 +309,7 @@ static inline const char *credits_word(uint8_t number)
         "no field",    "blank",        "not positive", "short",      "over maximum", "overflow",
         "underflow",   "no credit",    "narrow",       "under way",  "off the book", "idle",
         "itself",      "too much",     "other unit",   "long name",  "bad book",     "not empty",
-        "awaited"
+        "awaited",     "not reserved"
     };
     return number < sizeof words / sizeof *words ? words[number] : "unknown";
 }
@@ -351,26 +360,27 @@ CREDITS_OFFSET_(answer, length, 56);
 CREDITS_SIZE_(name, 33);
 CREDITS_OFFSET_(name, bytes, 0);
 CREDITS_OFFSET_(name, len, 32);
-CREDITS_SIZE_(place, 64);
+CREDITS_SIZE_(place, 88);
 CREDITS_OFFSET_(place, subject, 0);
 CREDITS_OFFSET_(place, balance, 40);
+CREDITS_OFFSET_(place, reserved, 64);
 CREDITS_SIZE_(transfer, 32);
 CREDITS_OFFSET_(transfer, from, 0);
 CREDITS_OFFSET_(transfer, to, 1);
 CREDITS_OFFSET_(transfer, amount, 8);
-CREDITS_SIZE_(book, 1320);
+CREDITS_SIZE_(book, 1704);
 CREDITS_OFFSET_(book, unit, 0);
 CREDITS_OFFSET_(book, opened, 34);
 CREDITS_OFFSET_(book, pending, 36);
 CREDITS_OFFSET_(book, places, 40);
-CREDITS_OFFSET_(book, transfers, 1064);
-CREDITS_SIZE_(started, 1384);
+CREDITS_OFFSET_(book, transfers, 1448);
+CREDITS_SIZE_(started, 1768);
 CREDITS_OFFSET_(started, answer, 0);
 CREDITS_OFFSET_(started, book, 64);
 CREDITS_SIZE_(step, 2);
 CREDITS_OFFSET_(step, number, 0);
 CREDITS_OFFSET_(step, detail, 1);
-CREDITS_SIZE_(run, 1840);
+CREDITS_SIZE_(run, 2224);
 CREDITS_OFFSET_(run, number, 0);
 CREDITS_OFFSET_(run, count, 2);
 CREDITS_OFFSET_(run, steps, 4);

@@ -3,7 +3,7 @@
 //! it that nothing overlaps. Needs nothing but `core`; Debian's rustc, 1.63, compiles it.
 
 /// Goes up when a struct, a call or the meaning of a number changes.
-pub const VERSION: u32 = 1;
+pub const VERSION: u32 = 2;
 
 // What an answer's number says, by the words of README.md's table.
 pub const ACCEPTED: u8 = 0;
@@ -37,6 +37,7 @@ pub const LONG_NAME: u8 = 27;
 pub const BAD_BOOK: u8 = 28;
 pub const NOT_EMPTY: u8 = 29;
 pub const AWAITED: u8 = 30;
+pub const NOT_RESERVED: u8 = 31;
 
 // The detail of `TORN_STATE`.
 pub const DETAIL_SOURCE: u8 = 1;
@@ -126,7 +127,7 @@ pub const STEPS_MAX: usize = 255;
 /// Bytes of a session.
 pub const SESSION_MAX: usize = 16384;
 /// Bytes that always hold a session's listing.
-pub const LISTING_MAX: usize = 4096;
+pub const LISTING_MAX: usize = 4608;
 
 #[repr(C)]
 #[derive(Clone, Copy, PartialEq, Eq, Debug)]
@@ -179,6 +180,7 @@ pub struct Name {
 pub struct Place {
     pub subject: Name,
     pub balance: Amount,
+    pub reserved: Amount,
 }
 
 #[repr(C)]
@@ -303,18 +305,18 @@ const _: () = {
     assert!(at(first64(x.requested.mantissa.hi), 32) && at(first16(x.length), 56));
     let x: Name = unsafe { core::mem::transmute(counting::<33>()) };
     assert!(at(x.bytes[0], 0) && at(x.len, 32));
-    let x: Place = unsafe { core::mem::transmute(counting::<64>()) };
-    assert!(at(x.subject.bytes[0], 0) && at(first64(x.balance.mantissa.hi), 40));
+    let x: Place = unsafe { core::mem::transmute(counting::<88>()) };
+    assert!(at(x.subject.bytes[0], 0) && at(first64(x.balance.mantissa.hi), 40) && at(first64(x.reserved.mantissa.hi), 64));
     let x: Transfer = unsafe { core::mem::transmute(counting::<32>()) };
     assert!(at(x.from, 0) && at(x.to, 1) && at(first64(x.amount.mantissa.hi), 8));
-    let x: Book = unsafe { core::mem::transmute(counting::<1320>()) };
+    let x: Book = unsafe { core::mem::transmute(counting::<1704>()) };
     assert!(at(x.unit.bytes[0], 0) && at(first16(x.opened), 34) && at(x.pending, 36));
-    assert!(at(x.places[0].subject.bytes[0], 40) && at(x.transfers[0].from, 1064));
-    let x: Started = unsafe { core::mem::transmute(counting::<1384>()) };
+    assert!(at(x.places[0].subject.bytes[0], 40) && at(x.transfers[0].from, 1448));
+    let x: Started = unsafe { core::mem::transmute(counting::<1768>()) };
     assert!(at(x.answer.number, 0) && at(x.book.unit.bytes[0], 64));
     let x: Step = unsafe { core::mem::transmute(counting::<2>()) };
     assert!(at(x.number, 0) && at(x.detail, 1));
-    let x: Run = unsafe { core::mem::transmute(counting::<1840>()) };
+    let x: Run = unsafe { core::mem::transmute(counting::<2224>()) };
     assert!(at(x.number, 0) && at(first16(x.count), 2) && at(x.steps[0].number, 4) && at(x.book.unit.bytes[0], 520));
 };
 
@@ -412,11 +414,11 @@ pub fn session_listing(session: &[u8], out: &mut [u8]) -> u16 {
 
 /// The word of a number in README.md's table; "unknown" for a number that is none.
 pub fn word(number: u8) -> &'static str {
-    const WORDS: [&str; 31] = [
+    const WORDS: [&str; 32] = [
         "accepted", "torn state", "torn input", "profile", "operation", "born", "unborn", "missing", "not text", "empty",
         "not whole", "fraction", "no field", "blank", "not positive", "short", "over maximum", "overflow", "underflow",
         "no credit", "narrow", "under way", "off the book", "idle", "itself", "too much", "other unit", "long name",
-        "bad book", "not empty", "awaited",
+        "bad book", "not empty", "awaited", "not reserved",
     ];
     WORDS.get(number as usize).copied().unwrap_or("unknown")
 }

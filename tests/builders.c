@@ -341,7 +341,7 @@ static void sessions(void)
         3, 1, 1, 19, 0, 2, 0, 2, 1, 21, 0, 2, 0, 4, 1, 23, 0, 1, 0, 'N', '2', 'r', 'd', '0',
         1, 7, 1, 7, 0, 1, 0, '5', 1, 7, 1, 7, 0, 1, 0, '5'
     };
-    static const char listing[] = "1 0 0\n2 0 0\n3 0 0\n4 15 0\n5 0 0\nplace 0 0\nplace 1 5\nheld 2 way 0 total 5\n";
+    static const char listing[] = "1 0 0\n2 0 0\n3 0 0\n4 15 0\n5 0 0\nplace 0 0 0\nplace 1 5 0\nheld 2 way 0 total 5\n";
     uint8_t n1[64], n2[64], five[64], printed[CREDITS_LISTING_MAX];
     credits_field fields[3];
     credits_entry entries[6], acted[3];

@@ -11,7 +11,7 @@ const STATE: [u8; 40] = [
     3, 1, 1, 19, 0, 2, 0, 2, 1, 21, 0, 2, 0, 4, 3, 23, 0, 17, 0, b'N', b'1', b'r', b'd', 5, 0, 0, 0, 0, 0, 0, 0, 0, 0, 0, 0, 0, 0,
     0, 0, 0,
 ];
-const LISTING: &[u8] = b"1 0 0\n2 0 0\n3 0 0\n4 15 0\n5 0 0\nplace 0 0\nplace 1 5\nheld 2 way 0 total 5\n";
+const LISTING: &[u8] = b"1 0 0\n2 0 0\n3 0 0\n4 15 0\n5 0 0\nplace 0 0 0\nplace 1 5 0\nheld 2 way 0 total 5\n";
 
 fn amount(hi: u64, lo: u64, scale: u8) -> credits::Amount {
     credits::Amount { mantissa: Uint128 { hi, lo }, scale }
@@ -153,6 +153,12 @@ fn books_and_sessions() {
     assert_eq!((book.places[0].balance, book.places[1].balance, book.pending), (amount(0, 5, 0), amount(0, 0, 0), 0));
     assert_eq!(book_cancel(&mut book, 7).number, IDLE);
     assert_eq!(book_cancel(&mut book, 8).number, OFF_THE_BOOK);
+    assert_eq!(book_act(&mut book, 0, BALANCE_RELEASE, five).number, NOT_RESERVED);
+    assert_eq!(book_act(&mut book, 0, BALANCE_RESERVE, five).number, ACCEPTED);
+    assert_eq!((book.places[0].balance, book.places[0].reserved), (amount(0, 0, 0), amount(0, 5, 0)));
+    assert_eq!(book_close(&mut book, 0).number, NOT_EMPTY);
+    assert_eq!(book_act(&mut book, 0, BALANCE_RELEASE, five).number, ACCEPTED);
+    assert_eq!((book.places[0].balance, book.places[0].reserved), (amount(0, 5, 0), amount(0, 0, 0)));
     assert_eq!(book_close(&mut book, 0).number, NOT_EMPTY);
     assert_eq!(book_begin(&mut book, 0, 1, 7, five).number, ACCEPTED);
     assert_eq!((book_close(&mut book, 0).number, book_close(&mut book, 1).number), (AWAITED, AWAITED));

@@ -456,7 +456,7 @@ static void starting(void)
 }
 
 /* A step, its answer and, where it is accepted, the balances (NULL: a closed place) and the transfers that it leaves. A balance is
- * `4/0`; of a place that was opened again it is `N3 4/0`, behind its subject. */
+ * `4/0`, and `4/0+2/0` with 2 reserved; of a place that was opened again it is `N3 4/0`, behind its subject. */
 typedef struct {
     const char *at;
     step s;
@@ -472,11 +472,12 @@ static const char *const subjects[] = { "N1", "N2", "GW" };
 static credits_place place_of(const char *subject, const char *words)
 {
     credits_place x = no_book.places[0];
-    const char *space = strchr(words, ' ');
+    const char *space = strchr(words, ' '), *plus = strchr(words, '+');
     size_t len = space ? (size_t)(space - words) : strlen(subject);
     memcpy(x.subject.bytes, space ? words : subject, len);
     x.subject.len = (uint8_t)len;
     x.balance = amount_of(space ? space + 1 : words);
+    x.reserved = amount_of(plus ? plus + 1 : NULL);
     return x;
 }
 
@@ -558,7 +559,7 @@ static const step_case steps[] = {
     REFUSED(ACT, 2, 13, 0, "7:0", 14, 0),
     REFUSED(ACT, 2, 13, 0, "7:" MOST, 25, 0),
     DONE(ACT, 2, 14, 0, "7:1", "6/0", "2/0", "7/0", WAYS),
-    DONE(ACT, 2, 16, 0, "7:1", "6/0", "2/0", "6/0", WAYS),
+    DONE(ACT, 2, 16, 0, "7:1", "6/0", "2/0", "6/0+1/0", WAYS),
     DONE(ACT, 2, 17, 0, "7:1", "6/0", "2/0", "7/0", WAYS),
     DONE(ACT, 2, 18, 0, "7:1", "6/0", "2/0", "6/0", WAYS),
     STEP_SHORT(ACT, 2, 18, 0, "7:7", "6/0", "7/0"),
@@ -609,11 +610,84 @@ static const step_case steps[] = {
     DONE(OPEN, 0, 0, 0, "1:N3 2:rd 4:0", "N3 0/0", "6/0", NULL, NO_WAY),
 };
 
-static void stepping(void)
+/* Another: what a place has reserved. */
+static const step_case reserves[] = {
+    DONE(OPEN, 0, 0, 0, "1:N1 2:rd 4:8", "8/0", NULL, NULL, NO_WAY),
+    DONE(OPEN, 1, 0, 0, "1:N2 2:rd 4:6", "8/0", "6/0", NULL, NO_WAY),
+    REFUSED(ACT, 0, 16, 0, "8:N2", 7, 7),
+    REFUSED(ACT, 0, 16, 0, "7:0", 14, 0),
+    STEP_SHORT(ACT, 0, 16, 0, "7:9", "8/0", "9/0"),
+    REFUSED(ACT, 16, 17, 0, NULL, 22, 0),
+    REFUSED(ACT, 2, 17, 0, NULL, 6, 0),
+    REFUSED(ACT, 0, 17, 0, NULL, 2, 0),
+    REFUSED(ACT, 0, 17, 0, "8:N2", 7, 7),
+    REFUSED(ACT, 0, 17, 0, "7!", 10, 7),
+    REFUSED(ACT, 0, 17, 0, "7:1e0", 11, 7),
+    REFUSED(ACT, 0, 17, 0, "7:0", 14, 0),
+    REFUSED(ACT, 0, 17, 0, "7:1", 31, 0), /* after its check */
+    DONE(ACT, 0, 16, 0, "7:3", "5/0+3/0", "6/0", NULL, NO_WAY),
+    STEP_SHORT(ACT, 0, 16, 0, "7:6", "5/0", "6/0"), /* what is reserved is held no more */
+    STEP_SHORT(ACT, 0, 18, 0, "7:6", "5/0", "6/0"),
+    STEP_SHORT(BEGIN, 0, 1, 0, "7:6", "5/0", "6/0"),
+    REFUSED(ACT, 0, 17, 0, "7:4", 31, 0),
+    REFUSED(ACT, 1, 17, 0, "7:1", 31, 0), /* another place has */
+    DONE(ACT, 1, 16, 0, "7:2", "5/0+3/0", "4/0+2/0", NULL, NO_WAY),
+    DONE(ACT, 0, 12, 0, "7:1 10:b", "6/0+3/0", "4/0+2/0", NULL, NO_WAY), /* the others leave it */
+    DONE(ACT, 0, 13, 0, "7:2", "8/0+3/0", "4/0+2/0", NULL, NO_WAY),
+    DONE(ACT, 0, 14, 0, "7:1", "7/0+3/0", "4/0+2/0", NULL, NO_WAY),
+    DONE(ACT, 0, 18, 0, "7:1", "6/0+3/0", "4/0+2/0", NULL, NO_WAY),
+    DONE(ACT, 0, 19, 0, "7:1 10:b", "5/0+3/0", "4/0+2/0", NULL, NO_WAY),
+    DONE(BEGIN, 0, 1, 0, "7:4", "1/0+3/0", "4/0+2/0", NULL, WAY_0),
+    DONE(BEGIN, 1, 0, 1, "7:3", "1/0+3/0", "1/0+2/0", NULL, WAYS),
+    DONE(FINISH, 0, 0, 0, NULL, "1/0+3/0", "5/0+2/0", NULL, WAY_1),
+    DONE(CANCEL, 0, 0, 1, NULL, "1/0+3/0", "8/0+2/0", NULL, NO_WAY),
+    DONE(ACT, 1, 17, 0, "7:1", "1/0+3/0", "9/0+1/0", NULL, NO_WAY),
+    DONE(ACT, 1, 17, 0, "7:1", "1/0+3/0", "10/0", NULL, NO_WAY),
+    REFUSED(ACT, 1, 17, 0, "7:1", 31, 0),
+    DONE(ACT, 0, 16, 0, "7:1", "0/0+4/0", "10/0", NULL, NO_WAY),
+    REFUSED(CLOSE, 0, 0, 0, NULL, 29, 0), /* nothing but what is reserved */
+    DONE(BEGIN, 1, 0, 1, "7:3", "0/0+4/0", "7/0", NULL, WAY_1),
+    REFUSED(CLOSE, 0, 0, 0, NULL, 29, 0), /* before 30 */
+    DONE(ACT, 0, 17, 0, "7:4", "4/0", "7/0", NULL, WAY_1),
+    DONE(ACT, 0, 18, 0, "7:4", "0/0", "7/0", NULL, WAY_1),
+    REFUSED(CLOSE, 0, 0, 0, NULL, 30, 0),
+    DONE(CANCEL, 0, 0, 1, NULL, "0/0", "10/0", NULL, NO_WAY),
+    DONE(CLOSE, 0, 0, 0, NULL, NULL, "10/0", NULL, NO_WAY),
+    DONE(OPEN, 0, 0, 0, "1:N3 2:rd 4:5", "N3 5/0", "10/0", NULL, NO_WAY),
+    REFUSED(ACT, 0, 17, 0, "7:1", 31, 0),
+};
+
+#define LOW "18446744073709551615" /* 2^64 - 1 */
+
+/* Another: reserved amounts of two words, and a book that is full of them. */
+static const step_case fills[] = {
+    DONE(OPEN, 0, 0, 0, "1:N1 2:rd 4:18446744073709551616", "H/0", NULL, NULL, NO_WAY),
+    DONE(OPEN, 1, 0, 0, "1:N2 2:rd 4:0", "H/0", "0/0", NULL, NO_WAY),
+    DONE(ACT, 0, 16, 0, "7:1", LOW "/0+1/0", "0/0", NULL, NO_WAY),
+    DONE(ACT, 0, 16, 0, "7:" LOW, "0/0+H/0", "0/0", NULL, NO_WAY),
+    REFUSED(ACT, 0, 17, 0, "7:18446744073709551617", 31, 0),
+    DONE(ACT, 0, 17, 0, "7:1", "1/0+" LOW "/0", "0/0", NULL, NO_WAY),
+    REFUSED(ACT, 0, 17, 0, "7:18446744073709551616", 31, 0), /* its lower word is 0 */
+    DONE(ACT, 0, 17, 0, "7:" LOW, "H/0", "0/0", NULL, NO_WAY),
+    DONE(ACT, 0, 18, 0, "7:18446744073709551616", "0/0", "0/0", NULL, NO_WAY),
+    DONE(ACT, 0, 13, 0, "7:" MOST, "M/0", "0/0", NULL, NO_WAY),
+    DONE(ACT, 0, 16, 0, "7:" MOST, "0/0+M/0", "0/0", NULL, NO_WAY), /* no more is issued */
+    STEP_SHORT(ACT, 0, 16, 0, "7:1", "0/0", "1/0"),
+    REFUSED(OPEN, 2, 0, 0, "1:GW 2:rd 4:1", 25, 0),
+    REFUSED(ACT, 0, 13, 0, "7:1", 25, 0),
+    REFUSED(ACT, 1, 12, 0, "7:1 10:b", 25, 0),
+    REFUSED(ACT, 1, 13, 0, "7:1", 25, 0),
+    REFUSED(ACT, 1, 17, 0, "7:1", 31, 0),
+    DONE(OPEN, 2, 0, 0, "1:GW 2:rd 4:0", "0/0+M/0", "0/0", "0/0", NO_WAY),
+    DONE(ACT, 0, 17, 0, "7:" MOST, "M/0", "0/0", "0/0", NO_WAY), /* nor here */
+    REFUSED(ACT, 0, 17, 0, "7:" MOST, 31, 0),
+};
+
+static void stepping(const step_case *cases, size_t n)
 {
     credits_book book = credits_book_start((const uint8_t *)"rd", 2).book, after = book, before;
-    for (size_t k = 0; k < COUNT(steps); k++) {
-        const step_case *c = &steps[k];
+    for (size_t k = 0; k < n; k++) {
+        const step_case *c = &cases[k];
         sheet input = sheet_of(c->input);
         credits_answer want = refused(c->number, c->detail);
         want.available = amount_of(c->available);
@@ -644,6 +718,8 @@ static void judging(void)
         { AT, offsetof(credits_book, places[2].subject.len), 33, IDLE }, /* closed */
         { AT, offsetof(credits_book, places[1].balance.scale), 1, BAD_BOOK },
         { AT, offsetof(credits_book, places[15].balance.scale), 1, BAD_BOOK },  /* closed */
+        { AT, offsetof(credits_book, places[1].reserved.scale), 1, BAD_BOOK },
+        { AT, offsetof(credits_book, places[15].reserved.scale), 1, BAD_BOOK }, /* closed */
         { AT, offsetof(credits_book, transfers[0].amount.scale), 1, BAD_BOOK },
         { AT, offsetof(credits_book, transfers[7].amount.scale), 1, BAD_BOOK }, /* not under way */
         { AT, offsetof(credits_book, transfers[0].from), 2, BAD_BOOK },
@@ -652,6 +728,8 @@ static void judging(void)
         { AT, offsetof(credits_book, transfers[7].to), 16, IDLE }, /* not under way */
         { AT, offsetof(credits_book, places[1].balance.mantissa.lo), 1, BAD_BOOK },
         { AT, offsetof(credits_book, places[2].balance.mantissa.lo), 1, IDLE }, /* closed */
+        { AT, offsetof(credits_book, places[1].reserved.mantissa.lo), 1, BAD_BOOK },
+        { AT, offsetof(credits_book, places[2].reserved.mantissa.lo), 1, IDLE }, /* closed */
         { AT, offsetof(credits_book, transfers[0].amount.mantissa.lo), 1, BAD_BOOK },
         { AT, offsetof(credits_book, transfers[7].amount.mantissa.lo), 1, IDLE }, /* not under way */
     };
@@ -665,6 +743,57 @@ static void judging(void)
         answer_is(cases[k].at, credits_book_close(&b, 2), refused(cases[k].number == IDLE ? UNBORN : BAD_BOOK, 0));
         book_is(cases[k].at, &b, &before);
     }
+}
+
+/* Every amount that a book stores: balances, reserved amounts, and what transfers carry. */
+enum { STORED = 16 + 16 + 8 };
+
+static credits_amount *stored(credits_book *b, int i)
+{
+    return i < 16 ? &b->places[i].balance : i < 32 ? &b->places[i - 16].reserved : &b->transfers[i - 32].amount;
+}
+
+/* 28 looks at the scale of each, where nothing is open or under way and where all is; and then any two may be 2^128 - 1 together, and not
+ * one more. In a sound book place 16 is off the book. */
+static void totalling(void)
+{
+    enum { OFF_THE_BOOK = 22 };
+    const credits_uint128 half = { (uint64_t)1 << 63, 0 }, less = { half.hi - 1, UINT64_MAX };
+    credits_book none = no_book, all;
+    none.unit = name_of("rd");
+    all = none;
+    all.opened = UINT16_MAX;
+    all.pending = UINT8_MAX;
+    for (int p = 0; p < 16; p++)
+        all.places[p].subject = name_of("N1");
+    for (int i = 0; i < STORED; i++) {
+        credits_book b = none;
+        stored(&b, i)->scale = 1;
+        answer_is(AT, credits_book_close(&b, 16), refused(BAD_BOOK, 0));
+        b = all;
+        stored(&b, i)->scale = 255;
+        answer_is(AT, credits_book_close(&b, 16), refused(BAD_BOOK, 0));
+        for (int j = 0; j < i; j++) {
+            b = all;
+            stored(&b, i)->mantissa = half;
+            stored(&b, j)->mantissa = less;
+            answer_is(AT, credits_book_close(&b, 16), refused(OFF_THE_BOOK, 0));
+            stored(&b, j)->mantissa = half;
+            answer_is(AT, credits_book_close(&b, 16), refused(BAD_BOOK, 0));
+        }
+    }
+}
+
+/* An open writes the whole record of a closed place, which may hold anything but a scale. */
+static void reopening(void)
+{
+    sheet create = sheet_of("1:N1 2:rd 4:5");
+    credits_book b = credits_book_start((const uint8_t *)"rd", 2).book, want = b;
+    b.places[2] = place_of("stale", "7/0+M/0");
+    want.opened = 4;
+    want.places[2] = place_of("N1", "5/0");
+    answer_is(AT, credits_book_open(&b, 2, create.bytes, create.len), refused(0, 0));
+    book_is(AT, &b, &want);
 }
 
 /* Each transfer in turn names GW, at either end, while the others are under way and name N1 alone: GW is awaited where that one is under
@@ -715,7 +844,7 @@ static void worked_session(session *s)
     add_step(s, FINISH, 0, 0, 0, NULL);
 }
 
-static const char worked_listing[] = "1 0 0\n2 0 0\n3 0 0\n4 15 0\n5 0 0\nplace 0 0\nplace 1 5\nheld 2 way 0 total 5\n";
+static const char worked_listing[] = "1 0 0\n2 0 0\n3 0 0\n4 15 0\n5 0 0\nplace 0 0 0\nplace 1 5 0\nheld 2 way 0 total 5\n";
 
 /* 255 steps of a book that ends full: fifteen places opened, the rest refused. */
 static void long_session(session *s)
@@ -746,24 +875,29 @@ static void run_of_bad(const char *at, const session *s)
     run_is_bad(at, &run);
 }
 
+/* The answers, with zeros behind them, and the book. */
+static void run_is(const char *at, const session *s, const credits_step *answers, size_t count, const credits_book *book)
+{
+    credits_run run = credits_session_run(s->bytes, s->len);
+    counted(run.number);
+    number_is(at, "number", run.number, 0);
+    number_is(at, "count", run.count, count);
+    bytes_are(at, "the steps", run.steps, answers, sizeof run.steps);
+    book_is(at, &run.book, book);
+}
+
 static void running(void)
 {
     static const credits_step worked_steps[255] = { { 0, 0 }, { 0, 0 }, { 0, 0 }, { SHORT, 0 }, { 0, 0 } };
     static session s;
     credits_book want = no_book;
-    credits_run run;
     want.unit = name_of("rd");
     want.opened = 3;
     want.places[0].subject = name_of("N1");
     want.places[1].subject = name_of("N2");
     want.places[1].balance = amount_of("5/0");
     worked_session(&s);
-    run = credits_session_run(s.bytes, s.len);
-    counted(run.number);
-    number_is(AT, "number", run.number, 0);
-    number_is(AT, "count", run.count, 5);
-    bytes_are(AT, "the steps", run.steps, worked_steps, sizeof worked_steps);
-    book_is(AT, &run.book, &want);
+    run_is(AT, &s, worked_steps, 5, &want);
     s.bytes[s.len++] = 0; /* a byte behind the last body */
     run_of_bad(AT, &s);
     begin_session(&s, 1);
@@ -774,7 +908,7 @@ static void running(void)
 static void listing(void)
 {
     static session s;
-    char text[4097] = "";
+    char text[CREDITS_LISTING_MAX + 1] = "";
     size_t n = 0;
     worked_session(&s);
     listing_in_each_length(AT, &s, worked_listing);
@@ -784,7 +918,7 @@ static void listing(void)
     for (int k = 1; k <= 255; k++)
         n += (size_t)sprintf(text + n, "%d %d 0\n", k, k > 15 ? 5 : 0);
     for (int p = 0; p < 15; p++)
-        n += (size_t)sprintf(text + n, "place %d 20\n", p);
+        n += (size_t)sprintf(text + n, "place %d 20 0\n", p);
     sprintf(text + n, "held 15 way 0 total 300\n");
     listing_in_each_length(AT, &s, text);
 }
@@ -804,8 +938,43 @@ static void closing(void)
         if (k > 0)
             run_of_bad(AT, &s);
         else
-            listing_in_each_length(AT, &s, "1 0 0\n2 0 0\n3 0 0\n4 29 0\nplace 1 5\nheld 1 way 0 total 5\n");
+            listing_in_each_length(AT, &s, "1 0 0\n2 0 0\n3 0 0\n4 29 0\nplace 1 5 0\nheld 1 way 0 total 5\n");
     }
+}
+
+/* What is reserved stands behind the balance; and the total that a run carries has it: what was spent may be credited again, up to
+ * 2^128 - 1, after a reserve and a release, and no more. */
+static void reserving(void)
+{
+    static const credits_step answers[255] = { { 0, 0 }, { 0, 0 }, { 0, 0 }, { NOT_RESERVED, 0 }, { 0, 0 },
+                                               { 0, 0 }, { 0, 0 }, { 25, 0 }, { 29, 0 } };
+    static session s;
+    credits_book want = no_book;
+    want.unit = name_of("rd");
+    want.opened = 3;
+    want.places[0] = place_of("N1", "0/0+2/0");
+    want.places[1] = place_of("N2", "M/0");
+    want.places[1].balance.mantissa.lo -= 2;
+    begin_session(&s, 10);
+    add_start(&s, "rd");
+    add_step(&s, OPEN, 0, 0, 0, "1:N1 2:rd 4:8");
+    add_step(&s, OPEN, 1, 0, 0, "1:N2 2:rd 4:5");
+    add_step(&s, ACT, 0, 16, 0, "7:3");
+    add_step(&s, ACT, 0, 17, 0, "7:4");
+    add_step(&s, ACT, 0, 17, 0, "7:1");
+    add_step(&s, ACT, 0, 18, 0, "7:6");
+    add_step(&s, ACT, 1, 13, 0, "7:340282366920938463463374607431768211448");
+    add_step(&s, ACT, 1, 13, 0, "7:1");
+    add_step(&s, CLOSE, 0, 0, 0, NULL);
+    run_is(AT, &s, answers, 9, &want);
+    listing_in_each_length(AT, &s, "1 0 0\n2 0 0\n3 0 0\n4 31 0\n5 0 0\n6 0 0\n7 0 0\n8 25 0\n9 29 0\nplace 0 0 2\n"
+                                   "place 1 340282366920938463463374607431768211453 0\nheld 2 way 0 total " MOST "\n");
+    begin_session(&s, 4);
+    add_start(&s, "rd");
+    add_step(&s, OPEN, 15, 0, 0, "1:N1 2:rd 4:" MOST);
+    add_step(&s, ACT, 15, 16, 0, "7:" MOST);
+    add_step(&s, OPEN, 0, 0, 0, "1:N2 2:rd 4:1");
+    listing_in_each_length(AT, &s, "1 0 0\n2 0 0\n3 25 0\nplace 15 0 " MOST "\nheld 1 way 0 total " MOST "\n");
 }
 
 /* ---- slices of no bytes: NULL will do */
@@ -860,12 +1029,17 @@ int main(int argc, char **argv)
     checking();
     writing();
     starting();
-    stepping();
+    stepping(steps, COUNT(steps));
+    stepping(reserves, COUNT(reserves));
+    stepping(fills, COUNT(fills));
     judging();
+    totalling();
+    reopening();
     awaiting();
     running();
     listing();
     closing();
+    reserving();
     without_bytes();
     steps_without_bytes();
     by_hand = calls;

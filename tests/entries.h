@@ -11,7 +11,7 @@
 /* Kinds of calls; START to CLOSE are also the kinds of a session's entries. */
 enum { START, OPEN, ACT, BEGIN, FINISH, CANCEL, CLOSE, CHECK, APPLY, BOTH, CREDIT, KINDS };
 enum { TEXT = 1, OTHER = 2, AMOUNT = 3 }; /* kinds of a sheet's fields */
-enum { SHORT = 15, NARROW = 20, BAD_BOOK = 28, AWAITED = 30, NUMBERS = 31 };
+enum { SHORT = 15, NARROW = 20, BAD_BOOK = 28, AWAITED = 30, NOT_RESERVED = 31, NUMBERS = 32 };
 
 /* The greatest mantissa, and the next number, which is none. */
 #define MOST "340282366920938463463374607431768211455"

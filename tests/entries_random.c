@@ -63,7 +63,7 @@ static const uint16_t details[KINDS][NUMBERS] = {
     [OPEN] = { [0] = NONE, [2] = NONE, [5] = NONE, [7] = D(1) | D(2) | D(4), [8] = D(1) | D(2), [9] = D(1) | D(2),
                [10] = D(4), [11] = D(4), [22] = NONE, [25] = NONE, [26] = NONE, [27] = D(1), [28] = NONE },
     [ACT] = { [0] = NONE, [2] = NONE, [4] = NONE, [6] = NONE, [7] = D(7) | D(10), [8] = D(10), [9] = D(10), [10] = D(7),
-              [11] = D(7), [14] = NONE, [15] = NONE, [22] = NONE, [25] = NONE, [28] = NONE },
+              [11] = D(7), [14] = NONE, [15] = NONE, [22] = NONE, [25] = NONE, [28] = NONE, [31] = NONE },
     [BEGIN] = { [0] = NONE, [2] = NONE, [6] = NONE, [7] = D(7), [10] = D(7), [11] = D(7), [14] = NONE, [15] = NONE,
                 [21] = NONE, [22] = NONE, [24] = NONE, [28] = NONE },
     [FINISH] = { [0] = NONE, [22] = NONE, [23] = NONE, [28] = NONE },
@@ -458,13 +458,29 @@ static credits_amount amount_in(const sheet *s, size_t k)
     return a;
 }
 
+/* What a sound input asks for under that name: 7 where it is absent, 11 and 10 where it is no whole number. */
+static credits_given asked_in(const sheet *input, uint8_t name)
+{
+    credits_given refusal = { 7, 0, { { 0, 0 }, 0 } };
+    for (size_t k = 0; k < input->bytes[0]; k++)
+        if (input->bytes[1 + 6 * k] == name) {
+            size_t len;
+            const uint8_t *text = body_of(input, k, &len);
+            refusal.number = 11;
+            for (size_t i = 0; i < len; i++)
+                if (memchr(".eE", text[i], 3))
+                    return refusal;
+            return credits_amount_read(text, len);
+        }
+    return refusal;
+}
+
 /* Apply keeps it, and so do both in one: what was written is of the kind, and what is left and what was asked for are what was held. */
 static void random_promise(void)
 {
     uint32_t n = below(COUNT(takes));
     uint8_t profile = takes[n].profile, operation = takes[n].operation;
-    size_t third = profile == 3 ? 1 : 2, k = 0, len, unit;
-    const uint8_t *text;
+    size_t third = profile == 3 ? 1 : 2, len, unit;
     sheet state = any_state(), input = any_input(), left, again;
     credits_answer a, b;
     credits_given asked, sum;
@@ -482,10 +498,7 @@ static void random_promise(void)
     answer_is(AT, b, a);
     bytes_are(AT, "what both in one wrote", again.bytes, left.bytes, a.length);
     number_is(AT, "whether the state is of the kind", is_state(&left) && left.bytes[1 + 6 * third] == forms[profile - 1][third], 1);
-    while (input.bytes[1 + 6 * k] != (profile == 1 ? 3 : 7))
-        k++;
-    text = body_of(&input, k, &len);
-    asked = credits_amount_read(text, len);
+    asked = asked_in(&input, profile == 1 ? 3 : 7);
     sum = credits_amount_add(amount_in(&left, third), asked.amount);
     number_is(AT, "whether what is left and what was asked for have a sum", sum.number, 0);
     number_is(AT, "whether the two are what was held", credits_amount_compare(sum.amount, amount_in(&state, third)), 1);
@@ -503,14 +516,23 @@ static int add_to(credits_uint128 *sum, credits_uint128 x)
     return over;
 }
 
-/* The open places' balances and what is under way; whether they leave 128 bits. */
+/* Takes from what is no less. */
+static void take_from(credits_uint128 *sum, credits_uint128 x)
+{
+    sum->hi -= x.hi + (sum->lo < x.lo);
+    sum->lo -= x.lo;
+}
+
+/* What the open places hold and have reserved, and what is under way; whether they leave 128 bits. */
 static int total_over(const credits_book *b, credits_uint128 *total)
 {
     int over = 0;
     total->hi = total->lo = 0;
     for (int p = 0; p < 16; p++)
-        if (b->opened >> p & 1)
+        if (b->opened >> p & 1) {
             over |= add_to(total, b->places[p].balance.mantissa);
+            over |= add_to(total, b->places[p].reserved.mantissa);
+        }
     for (int t = 0; t < 8; t++)
         if (b->pending >> t & 1)
             over |= add_to(total, b->transfers[t].amount.mantissa);
@@ -532,8 +554,10 @@ static int is_bad(const credits_book *b)
 {
     credits_uint128 total;
     int bad = total_over(b, &total) || bad_name(b->unit);
-    for (int p = 0; p < 16; p++)
-        bad |= b->places[p].balance.scale != 0 || (is_open(b, (uint8_t)p) && bad_name(b->places[p].subject));
+    for (int p = 0; p < 16; p++) {
+        const credits_place *x = &b->places[p];
+        bad |= x->balance.scale != 0 || x->reserved.scale != 0 || (is_open(b, (uint8_t)p) && bad_name(x->subject));
+    }
     for (int t = 0; t < 8; t++) {
         const credits_transfer *x = &b->transfers[t];
         bad |= x->amount.scale != 0 || ((b->pending >> t & 1) && !(is_open(b, x->from) && is_open(b, x->to)));
@@ -541,23 +565,43 @@ static int is_bad(const credits_book *b)
     return bad;
 }
 
-/* What a close of that place answers: document 02's request 2, behind 28. */
+/* What a close of that place answers: document 02's requests 2 and 5, behind 28. */
 static uint8_t close_number(const credits_book *b, uint8_t place)
 {
-    credits_uint128 held;
     if (is_bad(b))
         return BAD_BOOK;
     if (place > 15)
         return 22;
     if (!is_open(b, place))
         return 6;
-    held = b->places[place].balance.mantissa;
-    if (held.hi || held.lo)
+    if (!same_amount(b->places[place].balance, zero) || !same_amount(b->places[place].reserved, zero))
         return 29;
     for (int t = 0; t < 8; t++)
         if ((b->pending >> t & 1) && (b->transfers[t].from == place || b->transfers[t].to == place))
             return AWAITED;
     return 0;
+}
+
+/* What a reserve or a release answers: document 01's check, and then document 02's request 5. */
+static uint8_t moving_number(const credits_book *b, step s, const sheet *input)
+{
+    credits_given asked;
+    if (is_bad(b))
+        return BAD_BOOK;
+    if (s.a > 15)
+        return 22;
+    if (!is_open(b, s.a))
+        return 6;
+    if (!is_input(input))
+        return 2;
+    asked = asked_in(input, 7);
+    if (asked.number)
+        return asked.number;
+    if (same_amount(asked.amount, zero))
+        return 14;
+    if (s.b == 16)
+        return credits_amount_compare(b->places[s.a].balance, asked.amount) == CREDITS_LESS ? SHORT : 0;
+    return credits_amount_compare(b->places[s.a].reserved, asked.amount) == CREDITS_LESS ? NOT_RESERVED : 0;
 }
 
 /* Noise made sound, with empty places for closes: whatever 28 does not look at stays noise. */
@@ -566,15 +610,18 @@ static void tame(credits_book *b)
     b->unit = name_of("rd");
     for (int p = 0; p < 16; p++) {
         b->places[p].subject.len = (uint8_t)(1 + below(32));
-        b->places[p].balance.scale = 0;
-        b->places[p].balance.mantissa.hi >>= 5 + below(59);
+        b->places[p].balance.scale = b->places[p].reserved.scale = 0;
+        b->places[p].balance.mantissa.hi >>= 6 + below(58);
+        b->places[p].reserved.mantissa.hi >>= 6 + below(58);
         if (one_in(4))
             b->places[p].balance = zero;
+        if (one_in(2))
+            b->places[p].reserved = zero;
     }
     for (int t = 0; t < 8; t++) {
         credits_transfer *x = &b->transfers[t];
         x->amount.scale = 0;
-        x->amount.mantissa.hi >>= 5 + below(59);
+        x->amount.mantissa.hi >>= 6 + below(58);
         if (!is_open(b, x->from & 15) || !is_open(b, x->to & 15))
             b->pending &= (uint8_t)~D(t);
         x->from &= 15;
@@ -612,31 +659,45 @@ static step any_step(void)
 /* A book as its callers hold it, between guards. */
 typedef struct { uint8_t before[GUARD]; credits_book book; uint8_t behind[GUARD]; } lent;
 
-/* What an accepted step leaves: a sound book that differs in the step's own part alone. Only open and act move the total. */
-static void left_by(step s, const credits_book *before, const credits_book *after)
+/* What an accepted step leaves: a sound book that differs in the step's own part alone, by what was asked for. The total moves by what is
+ * issued and taken, which reserve and release do not. */
+static void left_by(step s, const sheet *input, const credits_book *before, const credits_book *after)
 {
     credits_book want = *before;
+    credits_place *place = &want.places[s.a & 15];
     credits_amount was = zero, is = zero;
+    credits_uint128 asked = has_body(s.kind) ? asked_in(input, s.kind == OPEN ? 4 : 7).amount.mantissa : zero.mantissa;
     const credits_transfer *carried = &before->transfers[s.t & 7];
-    uint8_t lands = (s.kind == CANCEL ? carried->from : carried->to) & 15, order;
+    uint8_t lands = (s.kind == CANCEL ? carried->from : carried->to) & 15;
+    int is_issued = s.kind == OPEN || (s.kind == ACT && (s.b == 12 || s.b == 13));
+    int is_taken = s.kind == ACT && (s.b == 14 || s.b == 18 || s.b == 19);
     switch (s.kind) {
     case OPEN:
         want.opened |= (uint16_t)D(s.a);
-        want.places[s.a] = after->places[s.a];
+        *place = no_book.places[0];
+        place->subject = after->places[s.a].subject;
+        place->balance.mantissa = asked;
         break;
     case ACT:
-        want.places[s.a].balance = after->places[s.a].balance;
+        if (s.b == 16)
+            add_to(&place->reserved.mantissa, asked);
+        if (s.b == 17)
+            take_from(&place->reserved.mantissa, asked);
+        if (is_issued || s.b == 17)
+            add_to(&place->balance.mantissa, asked);
+        else
+            take_from(&place->balance.mantissa, asked);
         break;
     case BEGIN:
         want.pending |= (uint8_t)D(s.t);
-        want.places[s.a].balance = after->places[s.a].balance;
+        take_from(&place->balance.mantissa, asked);
         want.transfers[s.t].from = s.a;
         want.transfers[s.t].to = s.b;
-        want.transfers[s.t].amount = after->transfers[s.t].amount;
+        want.transfers[s.t].amount.mantissa = asked;
         break;
     case CLOSE:
         want.opened &= (uint16_t)~D(s.a);
-        want.places[s.a] = no_book.places[0];
+        *place = no_book.places[0];
         break;
     default: /* finish or cancel */
         want.pending &= (uint8_t)~D(s.t);
@@ -645,15 +706,15 @@ static void left_by(step s, const credits_book *before, const credits_book *afte
     }
     book_is(AT, after, &want);
     number_is(AT, "whether a step made a bad book", is_bad(after), 0);
+    if (s.kind == ACT || s.kind == BEGIN)
+        number_is(AT, "whether nothing was asked for", asked.hi == 0 && asked.lo == 0, 0);
     total_over(before, &was.mantissa);
+    if (is_issued)
+        add_to(&was.mantissa, asked);
+    if (is_taken)
+        take_from(&was.mantissa, asked);
     total_over(after, &is.mantissa);
-    order = credits_amount_compare(was, is);
-    if (s.kind == OPEN)
-        number_is(AT, "whether an open lessened the total", order == 2, 0);
-    else if (s.kind == ACT)
-        number_is(AT, "the total before, beside the one after an act", order, s.b == 12 || s.b == 13 || s.b == 17 ? 0 : 2);
-    else
-        number_is(AT, "the total before, beside the one after a transfer or a close", order, 1);
+    amount_is(AT, "the total", is, was);
 }
 
 /* A step on a lent book. A refusal leaves every byte of it, padding too. */
@@ -673,12 +734,16 @@ static void random_step(lent *l)
     bytes_are(AT, "the guard behind a book", l->behind, before.behind, GUARD);
     if (a.number)
         bytes_are(AT, "a book after a refusal", &l->book, &before.book, sizeof l->book);
-    else
-        left_by(s, &before.book, &l->book);
+    else if (!has_body(s.kind) || is_input(&input))
+        left_by(s, &input, &before.book, &l->book);
     if (a.number == SHORT)
         amount_is(AT, "available", a.available, before.book.places[s.a].balance);
     if (s.kind == CLOSE)
         number_is(AT, "the number for this close", a.number, close_number(&before.book, s.a));
+    if (s.kind == ACT && (s.b == 16 || s.b == 17)) {
+        number_is(AT, "the number for this reserve or release", a.number, moving_number(&before.book, s, &input));
+        number_is(AT, "its detail", a.detail, a.number == 7 || a.number == 10 || a.number == 11 ? 7 : 0);
+    }
     if (has_body(s.kind) && (a.number == 0 || a.number == 2))
         number_is(AT, "the number for this sheet", a.number, is_input(&input) ? 0 : 2);
 }
@@ -785,12 +850,12 @@ static void run_is_its_steps(const session *s, const credits_run *run)
     book_is(AT, &run->book, &book);
 }
 
-static size_t put_number(char *text, credits_uint128 n)
+static size_t put_number(char *text, credits_uint128 n, char behind)
 {
     credits_amount a = { n, 0 };
     credits_text t = credits_amount_text(a);
     memcpy(text, t.bytes, t.len);
-    text[t.len] = '\n';
+    text[t.len] = behind;
     return t.len + 1u;
 }
 
@@ -799,7 +864,7 @@ static unsigned ones(unsigned set)
     return set ? (set & 1) + ones(set >> 1) : 0;
 }
 
-/* The listing that document 01 has for a run. */
+/* The listing that documents 01 and 02 have for a run. */
 static size_t listed(const credits_run *run, char *text)
 {
     const credits_book *b = &run->book;
@@ -812,21 +877,22 @@ static size_t listed(const credits_run *run, char *text)
     for (int p = 0; p < 16; p++)
         if (is_open(b, (uint8_t)p)) {
             n += (size_t)sprintf(text + n, "place %d ", p);
-            n += put_number(text + n, b->places[p].balance.mantissa);
+            n += put_number(text + n, b->places[p].balance.mantissa, ' ');
+            n += put_number(text + n, b->places[p].reserved.mantissa, '\n');
         }
     total_over(b, &total);
     n += (size_t)sprintf(text + n, "held %u way %u total ", ones(b->opened), ones(b->pending));
-    return n + put_number(text + n, total);
+    return n + put_number(text + n, total, '\n');
 }
 
 /* The listing in a buffer that is always enough, and in one of a random length. */
 static void listing_is(const session *s, const char *text, size_t len)
 {
-    uint8_t space[GUARD + 4096 + GUARD];
+    uint8_t space[GUARD + CREDITS_LISTING_MAX + GUARD];
     size_t room = below((uint32_t)len + 2), wanted = room < len ? 0 : len;
     calls += 2;
     patterned(space, sizeof space);
-    number_is(AT, "a listing's length", credits_session_listing(s->bytes, s->len, space + GUARD, 4096), len);
+    number_is(AT, "a listing's length", credits_session_listing(s->bytes, s->len, space + GUARD, CREDITS_LISTING_MAX), len);
     only_written(AT, space, sizeof space, (const uint8_t *)text, len);
     patterned(space, sizeof space);
     number_is(AT, "a listing's length", credits_session_listing(s->bytes, s->len, space + GUARD, room), wanted);

@@ -107,6 +107,7 @@ void book_is(const char *at, const credits_book *got, const credits_book *want)
     for (int p = 0; p < 16; p++) {
         name_is(at, "a subject", got->places[p].subject, want->places[p].subject);
         amount_is(at, "a balance", got->places[p].balance, want->places[p].balance);
+        amount_is(at, "a reserved amount", got->places[p].reserved, want->places[p].reserved);
     }
     for (int t = 0; t < 8; t++) {
         number_is(at, "a source", got->transfers[t].from, want->transfers[t].from);

@@ -6,8 +6,8 @@ has its book altered on the way, as no step would, and goes on: 28, or whatever 
 
 A record: kind, a, b, t, the body's length (16 bits), the body; for a start (kind 0) and a step (1 to 6) then the expected number and
 detail, and behind 15 both amounts (16 bytes each, little-endian). Kind 16 alters field a of record b to t. Kind 17 ends a list: its body is
-the expected book: the open places (16 bits), the transfers under way (8 bits), each open place's subject (33 bytes: 32 and the length) and
-balance, each transfer's ends and amount. Kind 18 is the list before it once more, through the run: its body is the list as a session, t the
+the expected book: the open places (16 bits), the transfers under way (8 bits), each open place's subject (33 bytes: 32 and the length),
+balance and reserved amount, each transfer's ends and amount. Kind 18 is the list before it once more, through the run: its body is the list as a session, t the
 number of steps; behind it the length (16 bits) of what is expected: each step's number and detail, then the book as kind 17 has it. A list
 that is no good session has none: its start was refused, its book was altered, or its bytes are no session.
 """
@@ -25,7 +25,7 @@ def start_unit():
 
 def alter(book):
     """Sets one field of the book to a byte, as crates/book_cases does."""
-    a, b, t = rng.randrange(1, 12), rng.randrange(8), rng.choice([0, 1, 2, 3, 16, 32, 33, 128, 255])
+    a, b, t = rng.randrange(1, 14), rng.randrange(8), rng.choice([0, 1, 2, 3, 16, 32, 33, 128, 255])
     x, r = book.places[b], book.transfers[b]
     if a == 1:
         book.unit.length = t
@@ -47,8 +47,12 @@ def alter(book):
         r.destination = t
     elif a == 10:
         r.scale = t
-    else:
+    elif a == 11:
         r.amount = t << 120
+    elif a == 12:
+        x.reserved_scale = t
+    else:
+        x.reserved = t << 120
     return a, b, t
 
 
@@ -70,7 +74,7 @@ def whole(book):
     data = struct.pack("<HB", sum(1 << p for p in book.opened), sum(1 << t for t in book.pending))
     for p in sorted(book.opened):
         x = book.places[p]
-        data += x.subject.data + bytes([x.subject.length]) + x.balance.to_bytes(16, "little")
+        data += x.subject.data + bytes([x.subject.length]) + x.balance.to_bytes(16, "little") + x.reserved.to_bytes(16, "little")
     for t in sorted(book.pending):
         r = book.transfers[t]
         data += bytes([r.source, r.destination]) + r.amount.to_bytes(16, "little")
@@ -139,7 +143,7 @@ for n in range(lists):
 with open(os.path.join(CRATE, "stdin"), "wb") as f:
     f.write(out)
 with open(os.path.join(CRATE, "stdout"), "w") as f:
-    for number in range(31):
+    for number in range(32):
         if numbers[number]:
             f.write("number %d: %d equal, 0 unequal\n" % (number, numbers[number]))
     f.write("books at a list's end: %d equal, 0 unequal\nalterations: %d\naltered books that met 28: %d\n" % (looks, altered, bad))

@@ -176,7 +176,7 @@ static void books(void)
 {
     enum { BOOKS = 4, INPUTS = 6 };
     credits_book all[BOOKS], book;
-    const sheet most = opening("N2", "rd", "340282366920938463463374607431768211450"), one = asking("1");
+    const sheet most = opening("N2", "rd", "340282366920938463463374607431768211450"), one = asking("1"), thousand = asking("1000");
     const sheet inputs[INPUTS] = { { { 0 }, 0 }, opening("N3", "rd", "5"), opening("N3", "xx", "5"), asking("3"), asking("4000"), most };
     row start = { "credits_book_start", 3481, 0 }, open = { "credits_book_open", 2457, 0 }, act = { "credits_book_act", 2457, 0 },
         begin = { "credits_book_begin", 2457, 0 }, finish = { "credits_book_finish", 2457, 0 }, cancel = { "credits_book_cancel", 2457, 0 },
@@ -196,6 +196,9 @@ static void books(void)
     all[2] = all[1];
     for (uint8_t t = 0; t < 7; t++) /* the last place is awaited */
         credits_book_begin(&all[2], t, (uint8_t)(t < 6 ? t + 1 : 14), t, one.bytes, one.len);
+    for (size_t k = 0; k < 3; k++) /* some of it may be released */
+        credits_book_act(&all[2], 3, 16, one.bytes, one.len);
+    credits_book_act(&all[2], 13, 16, thousand.bytes, thousand.len); /* nothing but that: not to be closed */
     memset(&all[3], 0xFF, sizeof all[3]);
     for (size_t b = 0; b < BOOKS; b++)
         for (size_t i = 0; i < INPUTS; i++)
@@ -225,8 +228,8 @@ static void books(void)
     show(close);
 }
 
-/* ---- sessions: of no bytes, of a start alone, and of 255 opens, acts, closes of what was opened empty, and begins, each with its finish
- * or its cancel */
+/* ---- sessions: of no bytes, of a start alone, and of 255 opens, acts (a release of what is not reserved, a reserve, a spend and a release
+ * among them), closes of what was opened empty, and begins, each with its finish or its cancel */
 
 static size_t entry(uint8_t *session, size_t k, size_t at, const uint8_t head[4], const void *body, size_t len)
 {
@@ -239,7 +242,7 @@ static size_t entry(uint8_t *session, size_t k, size_t at, const uint8_t head[4]
 static void sessions(void)
 {
     enum { ENTRIES = 256 };
-    static uint8_t session[16384], out[4096];
+    static uint8_t session[16384], out[CREDITS_LISTING_MAX];
     const sheet opened = opening("N1", "rd", "1000"), empty = opening("N1", "rd", "0"), three = asking("3");
     size_t lengths[] = { 0, 12, 0 }, at = 2 + 8 * ENTRIES;
     row ran = { "credits_session_run", 7168, 0 }, listed = { "credits_session_listing", 0, 0 };
@@ -249,7 +252,8 @@ static void sessions(void)
         at = entry(session, 0, 2 + 8 * entries, (const uint8_t[4]){ 0 }, "rd", 2);
         for (size_t k = 1; k < entries; k++) {
             uint8_t turn = (uint8_t)(k % 4), t = (uint8_t)(k / 4 % 8), p = (uint8_t)(k / 4 % 16);
-            const uint8_t heads[4][4] = { { 1, p }, { 2, 0, 18 }, { 3, 0, 2, t }, { t % 2 ? 5 : 4, 0, 0, t } }, close[4] = { 6, p };
+            const uint8_t operations[] = { 17, 16, 18 }, act = operations[k / 8 % 3];
+            const uint8_t heads[4][4] = { { 1, p }, { 2, 0, act }, { 3, 0, 2, t }, { t % 2 ? 5 : 4, 0, 0, t } }, close[4] = { 6, p };
             const uint8_t *head = p % 2 && turn == 1 ? close : heads[turn];
             const sheet *body = turn > 0 ? &three : p % 2 ? &empty : &opened;
             at = entry(session, k, at, head, body->bytes, head[0] < 4 ? body->len : 0);

@@ -64,6 +64,7 @@ class Name:
 class Place:
     def __init__(self, subject=b"", balance=0):
         self.subject, self.balance, self.scale = Name(subject), balance, 0
+        self.reserved = self.reserved_scale = 0
 
 
 class Transfer:
@@ -81,12 +82,13 @@ class Book:
         self.transfers = [Transfer() for _ in range(8)]
 
     def total(self):
-        return sum(self.places[p].balance for p in self.opened) + sum(self.transfers[t].amount for t in self.pending)
+        return (sum(self.places[p].balance + self.places[p].reserved for p in self.opened)
+                + sum(self.transfers[t].amount for t in self.pending))
 
     def is_bad(self):
         return (self.total() >= LIMIT or self.unit.is_bad()
                 or any(self.places[p].subject.is_bad() for p in self.opened)
-                or any(x.scale for x in self.places) or any(x.scale for x in self.transfers)
+                or any(x.scale or x.reserved_scale for x in self.places) or any(x.scale for x in self.transfers)
                 or any(end not in self.opened for t in self.pending
                        for end in (self.transfers[t].source, self.transfers[t].destination)))
 
@@ -117,10 +119,15 @@ def do_open(book, place, data):
     book.places[place] = Place(subject, balance)
 
 
-def taken(held, fields):
+def asked_for(fields):
     asked = amount_in(fields, AMOUNT)
     if asked == 0:
         raise Refused(14)
+    return asked
+
+
+def taken(held, fields):
+    asked = asked_for(fields)
     if asked > held:
         raise Refused(15, 0, held, asked)
     return asked
@@ -135,19 +142,24 @@ def do_act(book, place, operation, data):
     if operation not in (12, 13, 14, 16, 17, 18, 19):
         raise Refused(4)
     x = book.places[place]
-    if operation in (12, 13, 17):
-        if operation == 12:
-            text_in(fields, AUTHORIZED_BY)
-        asked = amount_in(fields, AMOUNT)
-        if asked == 0:
-            raise Refused(14)
+    if operation in (12, 19):
+        text_in(fields, AUTHORIZED_BY)
+    if operation in (12, 13):
+        asked = asked_for(fields)
         if book.total() + asked >= LIMIT:
             raise Refused(25)
         x.balance += asked
+    elif operation == 17:  # document 02, request 5: what was reserved comes back, and the total stays
+        asked = asked_for(fields)
+        if asked > x.reserved:
+            raise Refused(31)
+        x.reserved -= asked
+        x.balance += asked
     else:
-        if operation == 19:
-            text_in(fields, AUTHORIZED_BY)
-        x.balance -= taken(x.balance, fields)
+        asked = taken(x.balance, fields)
+        x.balance -= asked
+        if operation == 16:
+            x.reserved += asked
 
 
 def do_begin(book, source, destination, transfer, data):
@@ -196,7 +208,7 @@ def do_close(book, place):
         raise Refused(22)
     if place not in book.opened:
         raise Refused(6)
-    if book.places[place].balance:
+    if book.places[place].balance or book.places[place].reserved:
         raise Refused(29)
     if any(place in (book.transfers[t].source, book.transfers[t].destination) for t in book.pending):
         raise Refused(30)
@@ -252,7 +264,7 @@ def run(data):
 def listed(book, answers):
     """The listing's text of a run."""
     lines = ["%d %d %d" % (k, answer[0], answer[1]) for k, answer in enumerate(answers, 1)]
-    lines += ["place %d %d" % (p, book.places[p].balance) for p in sorted(book.opened)]
+    lines += ["place %d %d %d" % (p, book.places[p].balance, book.places[p].reserved) for p in sorted(book.opened)]
     lines.append("held %d way %d total %d" % (len(book.opened), len(book.pending), book.total()))
     return "".join(line + "\n" for line in lines).encode()
 

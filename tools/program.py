@@ -5,7 +5,7 @@ from layout import MOST_BYTES
 
 ROOT = os.path.join(os.path.dirname(os.path.realpath(__file__)), "..")
 BAD = "bad session\n"
-LISTING = re.compile(r"((?:\d+ \d+ \d+\n)*)((?:place \d+ \d+\n)*)held (\d+) way (\d+) total (\d+)\n")
+LISTING = re.compile(r"((?:\d+ \d+ \d+\n)*)((?:place \d+ \d+ \d+\n)*)held (\d+) way (\d+) total (\d+)\n")
 Listing = collections.namedtuple("Listing", "steps places held way total")
 
 
@@ -30,9 +30,10 @@ def listing_of(program, data):
 
 
 def taken_apart(text):
-    """A listing's figures: steps [(number, detail)], places {place: balance}; None for a bad session."""
+    """A listing's figures: steps [(number, detail)], places {place: (balance, reserved)}; None for a bad session."""
     if text == BAD:
         return None
     steps, places, *last = LISTING.fullmatch(text).groups()
+    figures = [tuple(map(int, line.split()[1:])) for line in places.splitlines()]
     return Listing([tuple(map(int, line.split()[1:])) for line in steps.splitlines()],
-                   {int(line.split()[1]): int(line.split()[2]) for line in places.splitlines()}, *map(int, last))
+                   {place: (balance, reserved) for place, balance, reserved in figures}, *map(int, last))

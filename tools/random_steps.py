@@ -39,13 +39,42 @@ def of_held(rng, book, place):
     return b"%d" % book.places[place].balance if place in book.opened and rng.random() < .25 else amount_text(rng)
 
 
+def out_of(rng, held):
+    """An amount to reserve or to release: all that is held, a part of it, or one more; now and then any."""
+    r = rng.random()
+    if not held or r < .25:
+        return amount_text(rng)
+    return b"%d" % (held if r < .6 else rng.randrange(1, held + 1) if r < .85 else held + 1)
+
+
+def to_the_limit(rng, book):
+    """An amount; now and then all that the book has room for, so that it is full, or one more."""
+    return b"%d" % (LIMIT - rng.randrange(2) - book.total()) if rng.random() < .12 else amount_text(rng)
+
+
 def some(rng, most, odd=.05):
     return rng.randrange(256) if rng.random() < odd else rng.randrange(most)
+
+
+def an_act(rng, book, place):
+    """An act: often a reserve of what a place holds, or a release where something is reserved."""
+    reserving = {p: book.places[p].reserved for p in sorted(book.opened) if book.places[p].reserved}
+    holding = {p: book.places[p].balance for p in sorted(book.opened) if book.places[p].balance}
+    operation = 17 if rng.random() < (.5 if reserving else .07) else rng.choice([12, 13, 14, 18, 19] * 3 + [16] * 5 + [11, 15, 20, 0, 255])
+    held = {16: holding, 17: reserving}.get(operation)
+    at = rng.choice(list(held)) if held and rng.random() < .9 else place()
+    if operation in (16, 17):
+        amount = out_of(rng, held.get(at))
+    else:
+        amount = to_the_limit(rng, book) if operation in (12, 13) else of_held(rng, book, at)
+    return 2, at, operation, 0, torn(rng, sheet(*field(rng, AMOUNT, amount), *field(rng, AUTHORIZED_BY, b"boss", .1)))
 
 
 def a_step(rng, book, k):
     """Opens first; then any step, mostly one that the book could take."""
     kind = 1 if k < 3 and rng.random() < .9 else rng.choice([1, 1, 2, 2, 2, 2, 3, 3, 3, 3, 3, 3, 4, 4, 5, 5, 6, 6, 6])
+    if any(book.places[p].reserved for p in book.opened) and rng.random() < .15:
+        kind = 2  # so that what is reserved comes back
     if kind in ENDS and not book.pending and rng.random() < .7:
         kind = 3  # so that there is something to finish or cancel
     if kind == 3 and len(book.opened) < 2 and rng.random() < .7:
@@ -55,14 +84,12 @@ def a_step(rng, book, k):
     if kind == 1:
         unit = rng.choice([b"rd"] * 24 + [b"re", b"r", b"rd" * 20])
         subject = rng.choice(SUBJECTS * 4 + [b"y" * 33])
-        balance = b"0" if rng.random() < .15 else amount_text(rng)
+        balance = b"0" if rng.random() < .15 else amount_text(rng) if k < 2 else to_the_limit(rng, book)
         shut = [p for p in range(6) if p not in book.opened]
         at = k if k < 3 else shut[0] if shut and rng.random() < .6 else some(rng, 6)  # often one that was closed
         return 1, at, 0, 0, torn(rng, sheet(*field(rng, SUBJECT, subject, .02), *field(rng, UNIT, unit, .02), *field(rng, BALANCE, balance, .02)))
     if kind == 2:
-        operation = rng.choice([12, 13, 14, 16, 17, 18, 19] * 3 + [11, 15, 20, 0, 255])
-        at = place()
-        return 2, at, operation, 0, torn(rng, sheet(*field(rng, AMOUNT, of_held(rng, book, at)), *field(rng, AUTHORIZED_BY, b"boss", .1)))
+        return an_act(rng, book, place)
     if kind == 3:
         other = field(rng, TO_SUBJECT, b"Z") if rng.random() < .2 else ()
         source = place()
@@ -71,6 +98,7 @@ def a_step(rng, book, k):
         return 3, source, destination, some(rng, 4, .04), torn(rng, sheet(*field(rng, AMOUNT, of_held(rng, book, source)), *other))
     if kind == CLOSE:
         empty = [p for p in sorted(book.opened) if not book.places[p].balance]
+        empty += 2 * [p for p in empty if not book.places[p].reserved]
         return 6, rng.choice(empty) if empty and rng.random() < .8 else place(), 0, 0, b""
     return kind, 0, 0, rng.choice(sorted(book.pending)) if book.pending and rng.random() < .7 else some(rng, 4, .04), b""
 
@@ -81,7 +109,7 @@ def a_session(rng):
     _, book = start(unit)
     entries = [(0, 0, 0, 0, unit)]
     r = rng.random()
-    for k in range(rng.randrange(0, 10) if r < .96 else rng.randrange(10, 60) if r < .99 else rng.randrange(200, 262)):
+    for k in range(rng.randrange(0, 12) if r < .96 else rng.randrange(10, 60) if r < .99 else rng.randrange(200, 262)):
         entry = a_step(rng, book, k)
         step(book, *entry)
         entries.append(entry)

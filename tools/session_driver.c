@@ -20,6 +20,12 @@ static void number(credits_uint128 n)
     put(&n.hi, 8);
 }
 
+static void amount(credits_amount a)
+{
+    number(a.mantissa);
+    put(&a.scale, 1);
+}
+
 static uint8_t filled(size_t from, uint8_t fill)
 {
     for (size_t i = from; i < sizeof out; i++)
@@ -60,14 +66,13 @@ int main(void)
         for (int p = 0; p < 16; p++) {
             put(run.book.places[p].subject.bytes, 32);
             put(&run.book.places[p].subject.len, 1);
-            number(run.book.places[p].balance.mantissa);
-            put(&run.book.places[p].balance.scale, 1);
+            amount(run.book.places[p].balance);
+            amount(run.book.places[p].reserved);
         }
         for (int t = 0; t < 8; t++) {
             put(&run.book.transfers[t].from, 1);
             put(&run.book.transfers[t].to, 1);
-            number(run.book.transfers[t].amount.mantissa);
-            put(&run.book.transfers[t].amount.scale, 1);
+            amount(run.book.transfers[t].amount);
         }
         put(&length, 2);
         put(text, length);

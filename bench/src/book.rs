@@ -13,6 +13,7 @@ pub struct Name {
 pub struct Place {
     subject: Name,
     balance: Amount,
+    reserved: Amount,
 }
 
 #[derive(Clone, Copy)]
@@ -47,7 +48,7 @@ impl Name {
 }
 
 const BLANK: Name = Name { bytes: [0; 32], len: 0 };
-const CLOSED: Place = Place { subject: BLANK, balance: direct::ZERO };
+const CLOSED: Place = Place { subject: BLANK, balance: direct::ZERO, reserved: direct::ZERO };
 const FREE: Transfer = Transfer { from: 0, to: 0, amount: direct::ZERO };
 
 fn whole(mantissa: u128) -> Amount {
@@ -75,10 +76,10 @@ impl Book {
         let mut sound = self.unit.is_sound();
         let mut sum = Some(0u128);
         for (p, place) in self.places.iter().enumerate() {
-            sound &= place.balance.scale == 0;
+            sound &= (place.balance.scale | place.reserved.scale) == 0;
             if self.opened >> p & 1 == 1 {
                 sound &= place.subject.is_sound();
-                sum = sum.and_then(|s| s.checked_add(place.balance.mantissa));
+                sum = sum.and_then(|s| s.checked_add(place.balance.mantissa)?.checked_add(place.reserved.mantissa));
             }
         }
         for (t, transfer) in self.transfers.iter().enumerate() {
@@ -112,7 +113,7 @@ impl Book {
             return Err(No(27, SUBJECT));
         }
         total.checked_add(balance).ok_or(refused(25))?;
-        self.places[usize::from(p)] = Place { subject: Name::new(subject), balance: whole(balance) };
+        self.places[usize::from(p)] = Place { subject: Name::new(subject), balance: whole(balance), reserved: direct::ZERO };
         self.opened |= 1 << p;
         Ok(())
     }
@@ -138,10 +139,17 @@ impl Book {
         }
         let amount = input.amount(AMOUNT)?.mantissa;
         if adds {
-            total.checked_add(amount).ok_or(refused(25))?;
+            if operation == 17 {
+                place.reserved.mantissa = place.reserved.mantissa.checked_sub(amount).ok_or(refused(31))?;
+            } else {
+                total.checked_add(amount).ok_or(refused(25))?;
+            }
             place.balance.mantissa += amount;
         } else {
             place.balance.mantissa -= amount;
+            if operation == 16 {
+                place.reserved.mantissa += amount;
+            }
         }
         Ok(None)
     }
@@ -211,7 +219,8 @@ impl Book {
         if !self.is_open(p) {
             return Err(refused(6));
         }
-        if self.places[usize::from(p)].balance.mantissa != 0 {
+        let place = &self.places[usize::from(p)];
+        if (place.balance.mantissa | place.reserved.mantissa) != 0 {
             return Err(refused(29));
         }
         if self.is_awaited(p) {
@@ -315,7 +324,7 @@ pub fn run(s: &[u8]) -> Option<Run> {
             let after = r.book.places[usize::from(a & 15)].balance.mantissa;
             match row[0] {
                 1 => total += after,
-                2 => total = total - before + after,
+                2 if !matches!(b, 16 | 17) => total = total - before + after,
                 _ => {}
             }
         }
@@ -354,7 +363,7 @@ impl Writer<'_> {
     }
 }
 
-/// The listing's length; it must fit, which 4,096 bytes always do.
+/// The listing's length; it must fit, which 4,608 bytes always do.
 pub fn listing(s: &[u8], out: &mut [u8]) -> usize {
     let mut w = Writer { out, at: 0 };
     let r = match run(s) {
@@ -378,6 +387,8 @@ pub fn listing(s: &[u8], out: &mut [u8]) -> usize {
             w.small(p);
             w.put(b" ");
             w.amount(place.balance.mantissa);
+            w.put(b" ");
+            w.amount(place.reserved.mantissa);
             w.put(b"\n");
         }
     }

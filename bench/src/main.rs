@@ -101,7 +101,7 @@ pub struct Bench {
     sending: Vec<u8>,
     opening: Vec<u8>,
     session: Vec<u8>,
-    out: [u8; 4096],
+    out: [u8; LISTING_MAX],
     written: Vec<u8>,
     spend: Operation,
     transfer: Operation,
@@ -129,7 +129,7 @@ impl Bench {
             sending,
             opening: opening(),
             session: session(255),
-            out: [0; 4096],
+            out: [0; LISTING_MAX],
             written: Vec::new(),
             spend: Operation::new("balance.spend").expect("a name"),
             transfer: Operation::new("balance.transfer").expect("a name"),
@@ -161,7 +161,8 @@ impl Bench {
     }
 }
 
-// Both books with eight places open, the last of them empty, so that it may be closed, and transfers 0, 1 and 2 under way.
+// Both books with eight places open, the last of them empty, so that it may be closed, the one before it with 3 reserved, so that
+// they may be released, and transfers 0, 1 and 2 under way.
 fn books() -> (Book, book::Book) {
     let (open, three, all) = (opening(), asking("3"), asking("100000"));
     let mut c = unsafe { credits_book_start(b"rd".as_ptr(), 2) }.book;
@@ -172,6 +173,8 @@ fn books() -> (Book, book::Book) {
     }
     unsafe { credits_book_act(&mut c, 7, 18, all.as_ptr(), all.len() as u64) };
     h.act(7, 18, &all);
+    unsafe { credits_book_act(&mut c, 6, 16, three.as_ptr(), three.len() as u64) };
+    h.act(6, 16, &three);
     for t in 0..3 {
         unsafe { credits_book_begin(&mut c, t, t + 1, t, three.as_ptr(), three.len() as u64) };
         h.begin(t, t + 1, t, &three);
@@ -276,6 +279,10 @@ cells! {
     open_hand b { let a = b.hand.open(black_box(8), &b.opening); b.took_hand(a); }
     act_library b { let a = unsafe { credits_book_act(&mut b.book, 4, 18, b.spending.as_ptr(), b.spending.len() as u64) }; b.took(a); }
     act_hand b { let a = b.hand.act(black_box(4), black_box(18), &b.spending); b.took_hand(a); }
+    reserve_library b { let a = unsafe { credits_book_act(&mut b.book, 4, 16, b.spending.as_ptr(), b.spending.len() as u64) }; b.took(a); }
+    reserve_hand b { let a = b.hand.act(black_box(4), black_box(16), &b.spending); b.took_hand(a); }
+    release_library b { let a = unsafe { credits_book_act(&mut b.book, 6, 17, b.spending.as_ptr(), b.spending.len() as u64) }; b.took(a); }
+    release_hand b { let a = b.hand.act(black_box(6), black_box(17), &b.spending); b.took_hand(a); }
     begin_library b {
         let a = unsafe { credits_book_begin(&mut b.book, 4, 5, 3, b.spending.as_ptr(), b.spending.len() as u64) };
         b.took(a);
@@ -291,7 +298,7 @@ cells! {
     run_library b { b.answered.2 = black_box(unsafe { credits_session_run(b.session.as_ptr(), b.session.len() as u64) }).count; }
     run_hand b { b.answered.2 = black_box(book::run(&b.session)).map_or(0, |r| r.count as u16); }
     listing_library b {
-        b.answered.2 = unsafe { credits_session_listing(b.session.as_ptr(), b.session.len() as u64, b.out.as_mut_ptr(), 4096) };
+        b.answered.2 = unsafe { credits_session_listing(b.session.as_ptr(), b.session.len() as u64, b.out.as_mut_ptr(), LISTING_MAX as u64) };
     }
     listing_hand b { b.answered.2 = book::listing(&b.session, &mut b.out) as u16; }
 
@@ -330,7 +337,7 @@ fn agree(b: &mut Bench) {
         }
         b.reset();
         b.answered = (0, 0, 0);
-        b.out = [0; 4096];
+        b.out = [0; LISTING_MAX];
         cell(b);
         // the original's values without their sheets have no length
         let length = if b.answered.2 == 0 { None } else { Some(b.answered.2) };
@@ -410,7 +417,7 @@ fn main() {
             for steps in [4, 16, 64, 255] {
                 let s = session(steps);
                 let ns = time(|| {
-                    black_box(unsafe { credits_session_listing(s.as_ptr(), s.len() as u64, b.out.as_mut_ptr(), 4096) });
+                    black_box(unsafe { credits_session_listing(s.as_ptr(), s.len() as u64, b.out.as_mut_ptr(), LISTING_MAX as u64) });
                 });
                 println!("{steps} {} {:.0}", s.len(), 1e9 / ns);
             }

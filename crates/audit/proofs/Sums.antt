@@ -1,5 +1,5 @@
 -- Sums by halves, sums and tests over indices a turn of a loop at a time, and a book's tables by the code's test of their sets.
-use Rattle.std.proofs.Common.{◌≡◌, ℕ, suc, ◌+◌, ◌*◌, ◌/◌, ◌%◌, ◌^◌, ◌<◌, ◌≤◌, Bool, true, false, cond, ◌&&◌, sym, refl, ap, ◌∙◌, le_trans, le-add_right, mul-le-mul_right, div-add-mod', arith, le-ltb, lt-ltb}
+use Rattle.std.proofs.Common.{◌≡◌, ℕ, suc, ◌+◌, ◌*◌, ◌/◌, ◌%◌, ◌^◌, ◌<◌, ◌≤◌, Bool, true, false, cond, ◌&&◌, sym, refl, ap, ◌∙◌, le_trans, le-add_right, mul-le-mul_right, div-add-mod', mul-suc, arith, le-ltb, lt-ltb}
 use mathlib.Core.Option.{some, none}
 use mir.Val.{bool_byte}
 use native.Mathlib.Nat.{mul-add-mod_self_right}
@@ -82,42 +82,45 @@ sum_next : (f : ℕ → ℕ) (i : ℕ) → sum f (i + 1) ≡ sum f i + f i
 unfolding sum
 sum_next f i = ap (sum f) (next_index i)
 
--- the first i records of a table, n records before them, and m credits: each passes two tests, and the sum counts its part
-pub record Seen (f g : ℕ → Bool) (part : ℕ → ℕ) (m n i : ℕ) (s : HalfSums) : Type 0 where
+-- the first i records of a table of k numbers each, n numbers before them, and m credits: each passes two tests, and the sum counts its part
+pub record Seen (f g : ℕ → Bool) (part : ℕ → ℕ) (m n k i : ℕ) (s : HalfSums) : Type 0 where
   pub first : every f i ≡ true
   pub second : every g i ≡ true
   pub counted : sum_in s ≡ m + sum part i
-  pub above : s.above ≤ n + i
-  pub carries : s.carries ≤ n + i
+  pub above : s.above ≤ n + k * i
+  pub carries : s.carries ≤ n + k * i
 
-pub seen_none : (f g : ℕ → Bool) (part : ℕ → ℕ) (m n : ℕ) (s : HalfSums) → sum_in s ≡ m → s.above ≤ n → s.carries ≤ n → Seen f g part m n 0 s
+pub seen_none : (f g : ℕ → Bool) (part : ℕ → ℕ) (m n k : ℕ) (s : HalfSums) → sum_in s ≡ m → s.above ≤ n → s.carries ≤ n → Seen f g part m n k 0 s
 unfolding every sum
-seen_none f g part m n s e a k = record { first = refl; second = refl; counted = omega arith; above = omega arith; carries = omega arith }
+seen_none f g part m n k s e a c = record { first = refl; second = refl; counted = omega arith; above = omega arith; carries = omega arith }
 
-module _ {f g : ℕ → Bool} {part : ℕ → ℕ} {m n i : ℕ} {s : HalfSums} (seen : Seen f g part m n i s) (p : f i ≡ true) (q : g i ≡ true) where
-  -- t is the sum s and the record's part
-  pub seen_more : {x : ℕ} {r t : HalfSums} → part i ≡ x → t ≡ r → Added s x r → Seen f g part m n (i + 1) t
-  seen_more {x} {r} {t} e same a =
-      rw same
-      (record {
-        first = every_next f i seen.first p;
-        second = every_next g i seen.second q;
-        counted = omega (arith, a.sum, seen.counted, sum_next part i);
-        above = omega (arith, a.above, seen.above);
-        carries = omega (arith, a.carries, seen.carries);
-      })
+-- r is the sum s and n more, and has counted at most k times more
+pub record AddedBy (k : ℕ) (s : HalfSums) (n : ℕ) (r : HalfSums) : Type 0 where
+  pub sum : sum_in r ≡ sum_in s + n
+  pub above : r.above ≤ s.above + k
+  pub carries : r.carries ≤ s.carries + k
 
-  -- the record has no part
-  pub seen_skip : {t : HalfSums} → part i ≡ 0 → t ≡ s → Seen f g part m n (i + 1) t
-  seen_skip {t} e same =
-      rw same
-      (record {
-        first = every_next f i seen.first p;
-        second = every_next g i seen.second q;
-        counted = omega (arith, seen.counted, sum_next part i);
-        above = omega (arith, seen.above);
-        carries = omega (arith, seen.carries);
-      })
+pub added_none : (k : ℕ) (s : HalfSums) → AddedBy k s 0 s
+added_none k s = record { sum = omega arith; above = omega arith; carries = omega arith }
+
+pub added_once : {s r : HalfSums} {n : ℕ} → Added s n r → AddedBy 1 s n r
+added_once a = record { sum = a.sum; above = a.above; carries = a.carries }
+
+pub added_twice : {s q r : HalfSums} {m n : ℕ} → Added s m q → Added q n r → AddedBy 2 s (m + n) r
+added_twice a c = record { sum = omega (arith, a.sum, c.sum); above = omega (arith, a.above, c.above); carries = omega (arith, a.carries, c.carries) }
+
+-- t is the sum s and the record's part
+pub seen_more : {f g : ℕ → Bool} {part : ℕ → ℕ} {m n k i : ℕ} {s : HalfSums} → Seen f g part m n k i s → f i ≡ true → g i ≡ true
+    → {x : ℕ} {r t : HalfSums} → part i ≡ x → t ≡ r → AddedBy k s x r → Seen f g part m n k (i + 1) t
+seen_more {f} {g} {part} {m} {n} {k} {i} seen p q {x} {r} {t} e same a =
+    rw same
+    (record {
+      first = every_next f i seen.first p;
+      second = every_next g i seen.second q;
+      counted = omega (arith, a.sum, seen.counted, sum_next part i);
+      above = rw (next_index i, mul-suc k i) (omega (arith, a.above, seen.above));
+      carries = rw (next_index i, mul-suc k i) (omega (arith, a.carries, seen.carries));
+    })
 
 -- ---- a book's tables, by the code's test of the set
 
@@ -188,12 +191,19 @@ wrapped_next {part} {m} {i} {r} w n t e h =
 pub wrapped_same : {part : ℕ → ℕ} {m i : ℕ} {r : Uint128} → Wrapped part m i r → (t : Uint128) → part i ≡ 0 → t ≡ r → Wrapped part m (i + 1) t
 wrapped_same {part} {m} {i} {r} w t e h = record { sum = h ∙ w.sum ∙ ap (λ (k : ℕ). halves (k % limit)) (omega (arith, e, sum_next part i)) }
 
+-- two numbers, one after the other
+pub wrapped_twice : (r q t : Uint128) (m n : ℕ) → q ≡ halves ((val r + m) % limit) → t ≡ halves ((val q + n) % limit) → t ≡ halves ((val r + (m + n)) % limit)
+wrapped_twice r q t m n e h =
+    h ∙ ap (λ (k : ℕ). halves ((k + n) % limit)) (val_of e) ∙ ap halves (wrapped_again (val r + m) n) ∙ ap (λ (k : ℕ). halves (k % limit)) (omega arith)
+
 -- what a place and a transfer count
 module _ (b : Book) (p : ℕ) (t : Bool) where
-  pub stock_counts : t ≡ has b.opened p → stock_of (place_at b p) ≡ cond t (credits (place_record b p).balance) 0
+  pub stock_counts : t ≡ has b.opened p
+      → stock_of (place_at b p) ≡ cond t (credits (place_record b p).balance + credits (place_record b p).reserved) 0
   stock_counts e = go (has b.opened p) refl
     where
-      go : (u : Bool) → has b.opened p ≡ u → stock_of (place_at b p) ≡ cond t (credits (place_record b p).balance) 0
+      go : (u : Bool) → has b.opened p ≡ u
+          → stock_of (place_at b p) ≡ cond t (credits (place_record b p).balance + credits (place_record b p).reserved) 0
       go true h = rw (e, h, place_in b p h)
       go false h = rw (e, h, place_out b p h)
 

@@ -21,12 +21,12 @@ use Rattle.registry.specs.declared.error.Answer.{Answer}
 use Rattle.profiles.specs.Balance.{balance_rules}
 use Rattle.book.specs.Sets.{bit, entry, any}
 use Rattle.book.specs.Refusals.{book_answer_of}
-use Rattle.book.specs.Book.{whole_amount, name_bytes, name_of, blank_name, blank_place, blank_transfer, place_record, transfer_record, place_at, transfer_at, balances, credits_under_way, total, awaited, name_ok, is_well_formed, set_subject, set_balance, set_unit, set_places}
-use Rattle.book.specs.Steps.{Step, Open, Act, Begin, Finish, Cancel, Close, credits_in, bytes_in, adds, acts, doing, tests_open, tests_act, tests_begin, tests_finish, tests_close, seen, answer}
+use Rattle.book.specs.Book.{whole_amount, name_bytes, name_of, blank_name, blank_place, blank_transfer, place_record, transfer_record, place_at, transfer_at, stocks, credits_under_way, total, awaited, name_ok, is_well_formed, open_place, set_subject, set_balance, set_reserved, set_unit, set_places}
+use Rattle.book.specs.Steps.{Step, Open, Act, Begin, Finish, Cancel, Close, credits_in, bytes_in, adds, acts, doing, tests_open, tests_act, tests_begin, tests_finish, tests_close, seen, answer, next}
 use Rattle.book.specs.declared.Name.{Name}
 use Rattle.book.specs.declared.Place.{Place}
 use Rattle.book.specs.declared.Book.{Book}
-use Rattle.book.proofs.Worked.{unit, asking, account, left, second_left}
+use Rattle.book.proofs.Worked.{unit, asking, account, account_with, left, second_left}
 use Rattle.std.specs.Prelude.{Ok}
 
 -- ---- sheets
@@ -118,8 +118,14 @@ acting =
     ∷ row (Act 0 13 (amounting (48 ∷ []))) 14 0
     ∷ row (Act 0 13 (amounting (most 51 56))) 25 0
     ∷ row (Act 0 13 (amounting (most 51 55))) 0 0
+    -- request 5: nothing is reserved
+    ∷ row (Act 0 16 (amounting (51 ∷ []))) 0 0
+    ∷ row (Act 0 16 (amounting five)) 15 0
+    ∷ row (Act 0 17 (amounting (49 ∷ []))) 31 0
     -- 22 before 6 (above) and 2, 6 before 2 and 4, 2 before 4, 4 before the check (15 lacks a to_subject, above), the check before 25 (a mint
-    -- that nobody authorized)
+    -- that nobody authorized). No row can show 31 behind the check: an amount that the check of a release refuses counts as 0, and so much is there
+    ∷ row (Act 0 17 (amounting (48 ∷ []))) 14 0
+    ∷ row (Act 0 17 torn) 2 0
     ∷ row (Act 16 13 torn) 22 0
     ∷ row (Act 2 13 torn) 6 0
     ∷ row (Act 2 11 (amounting five)) 6 0
@@ -191,18 +197,21 @@ abbrev with_transfer : ℕ → ℕ → ℕ → Amount → Book
 with_transfer pending from to a =
     left (account 49 3) (account 50 9) pending (blank_transfer ∷ blank_transfer ∷ record { from = from; to = to; amount = a } ∷ replicate 5 blank_transfer)
 
--- in order: a total of 2^128, by what is held and by what is under way; a unit and a subject, each empty and too long; a scale of 1 in a
--- place that is open and in one that is closed, and in a transfer that is under way and one that is not; a transfer from, and to, a place
--- that is not open
+-- in order: a total of 2^128, by what is held, by what is reserved and by what is under way; a unit and a subject, each empty and too long; a scale
+-- of 1 in a place that is open and in one that is closed, of the balance and of what is reserved, and in a transfer that is under way and one that
+-- is not; a transfer from, and to, a place that is not open
 abbrev bad_books : List Book
 bad_books =
     with_places (account 49 340282366920938463463374607431768211441) (account 50 9) blank_place
+    ∷ with_places (account_with 49 3 340282366920938463463374607431768211438) (account 50 9) blank_place
     ∷ with_transfer 4 0 1 (whole_amount 340282366920938463463374607431768211444)
     ∷ (map (set_unit second_left) names
     ++ map (λ n. with_places (set_subject (account 49 3) n) (account 50 9) blank_place) names
     ++ (
     with_places (set_balance (account 49 3) tenth) (account 50 9) blank_place
     ∷ with_places (account 49 3) (account 50 9) (set_balance blank_place tenth)
+    ∷ with_places (set_reserved (account 49 3) tenth) (account 50 9) blank_place
+    ∷ with_places (account 49 3) (account 50 9) (set_reserved blank_place tenth)
     ∷ with_transfer 4 0 1 tenth
     ∷ with_transfer 0 0 1 tenth
     ∷ with_transfer 4 2 1 (whole_amount 6)
@@ -218,13 +227,34 @@ abbrev on_full : List Row
 on_full =
     row (Open 2 (opening name unit (48 ∷ []))) 0 0
     ∷ row (Open 2 (opening name unit (49 ∷ []))) 25 0
-    ∷ row (Act 0 17 (asking 49)) 25 0
+    ∷ row (Act 0 13 (asking 49)) 25 0
+    ∷ row (Act 0 17 (asking 49)) 31 0
+    ∷ row (Act 0 16 (asking 49)) 0 0
     ∷ row (Act 0 18 (asking 51)) 0 0
     ∷ row (Begin 0 1 0 (asking 51)) 0 0
     ∷ row (Finish 2) 0 0
     ∷ row (Cancel 2) 0 0
     ∷ row (Close 0) 29 0
     ∷ []
+
+-- the same total, all but 15 of it reserved by a place that holds nothing: a release meets no 25
+abbrev reserved_book : Book
+reserved_book = with_places (account_with 49 0 340282366920938463463374607431768211440) (account 50 9) blank_place
+
+abbrev on_reserved : List Row
+on_reserved =
+    row (Act 0 17 (asking 49)) 0 0
+    ∷ row (Act 0 17 (amounting (most 52 48))) 0 0
+    ∷ row (Act 0 17 (amounting (most 52 49))) 31 0
+    ∷ row (Act 0 18 (asking 49)) 15 0
+    ∷ row (Act 1 13 (asking 49)) 25 0
+    ∷ row (Open 2 (opening name unit (49 ∷ []))) 25 0
+    ∷ row (Close 0) 29 0
+    ∷ []
+
+-- a closed place whose record has credits and a reserved amount, as no step leaves one: an open keeps neither
+abbrev stale_book : Book
+stale_book = with_places (account 49 3) (account 50 9) (account_with 51 7 8)
 
 -- 28 comes before any other
 abbrev on_bad : List Row
@@ -242,13 +272,21 @@ pub answered : Answers second_left opens × Answers second_left acting × Answer
     × Answers full_book on_full × Answers (with_transfer 0 0 1 tenth) on_bad
     × (answer second_left (Begin 0 1 0 (asking 51)) ≡ Ok tt) × (answer second_left (Finish 2) ≡ Ok tt)
     × (answer second_left (Cancel 2) ≡ Ok tt)
-unfolding val limit halves order_of all_digits digits_after decimal amount_if read_of compare_of zeros every sum prior entry_at entries_from lookup sound_as field encode text_in bytes_of marked parsed amount_by amount_of state_absent state_there above_zero held_by balance_rules bit entry name_bytes name_of blank_name blank_place blank_transfer place_record transfer_record place_at transfer_at balances credits_under_way total any awaited name_ok is_well_formed credits_in bytes_in adds acts doing tests_open tests_act tests_begin tests_finish tests_close seen answer
+unfolding val limit halves order_of all_digits digits_after decimal amount_if read_of compare_of zeros every sum prior entry_at entries_from lookup sound_as field encode text_in bytes_of marked parsed amount_by amount_of state_absent state_there above_zero held_by balance_rules bit entry name_bytes name_of blank_name blank_place blank_transfer place_record transfer_record place_at transfer_at stocks credits_under_way total any awaited name_ok is_well_formed credits_in bytes_in adds acts doing tests_open tests_act tests_begin tests_finish tests_close seen answer
 answered = (refl, refl, refl, refl, refl, refl, refl, refl, refl, refl)
 
+pub reserve_answered : Answers reserved_book on_reserved
+unfolding val limit halves order_of all_digits digits_after decimal amount_if read_of compare_of zeros every sum prior entry_at entries_from lookup sound_as field encode text_in bytes_of marked parsed amount_by amount_of state_absent state_there above_zero held_by balance_rules bit entry name_bytes name_of blank_name blank_place blank_transfer place_record transfer_record place_at transfer_at stocks credits_under_way total any awaited name_ok is_well_formed credits_in bytes_in adds acts doing tests_open tests_act tests_begin tests_finish tests_close seen answer
+reserve_answered = refl
+
+pub open_clears : place_record (next stale_book (Open 2 (opening (78 ∷ 51 ∷ []) unit (50 ∷ [])))) 2 ≡ account 51 2
+unfolding val limit halves order_of all_digits digits_after decimal amount_if read_of compare_of zeros every sum prior entry_at entries_from lookup sound_as field encode text_in bytes_of marked parsed amount_by amount_of state_absent state_there above_zero held_by balance_rules bit entry name_bytes name_of blank_name blank_place blank_transfer place_record transfer_record place_at transfer_at stocks credits_under_way total any awaited name_ok is_well_formed credits_in bytes_in adds acts doing tests_open tests_act tests_begin tests_finish tests_close seen answer next open_place
+open_clears = refl
+
 pub close_answered : Answers second_left closing × Answers (emptied 4) awaiting × Answers (emptied 0) leaving
-unfolding val limit halves zeros every sum any bit entry name_bytes name_of blank_name blank_place blank_transfer place_record transfer_record place_at transfer_at balances credits_under_way total awaited name_ok is_well_formed tests_close seen answer
+unfolding val limit halves zeros every sum any bit entry name_bytes name_of blank_name blank_place blank_transfer place_record transfer_record place_at transfer_at stocks credits_under_way total awaited name_ok is_well_formed tests_close seen answer
 close_answered = (refl, refl, refl)
 
-pub bad : map is_well_formed bad_books ≡ replicate 12 false
-unfolding val limit halves zeros every sum bit entry name_of blank_name blank_place blank_transfer place_record transfer_record place_at transfer_at balances credits_under_way total name_ok is_well_formed
+pub bad : map is_well_formed bad_books ≡ replicate 15 false
+unfolding val limit halves zeros every sum bit entry name_of blank_name blank_place blank_transfer place_record transfer_record place_at transfer_at stocks credits_under_way total name_ok is_well_formed
 bad = refl

@@ -30,7 +30,7 @@ use Rattle.transition.specs.Credit.{credit_of}
 use Rattle.transition.specs.Written.{buffer_after}
 use Rattle.book.specs.Places.{put_field}
 use Rattle.book.specs.Book.{credits, whole_amount, name_bytes, name_of, no_place, no_transfer, blank_transfer, place_record, transfer_record, place_at, transfer_at, is_some, open_place, set_record, set_credits, set_transfer}
-use Rattle.book.specs.Steps.{Open, Act, Begin, Finish, Cancel, credits_in, bytes_in, changed, held_at, seen, answer, next}
+use Rattle.book.specs.Steps.{Open, Act, Begin, Finish, Cancel, credits_in, bytes_in, doing, held_at, seen, answer, next}
 use Rattle.book.specs.declared.Place.{Place}
 use Rattle.book.specs.declared.Transfer.{Transfer}
 use Rattle.book.specs.declared.Book.{Book}
@@ -38,6 +38,7 @@ use Rattle.book.proofs.Worked.{asking, second_left}
 use Rattle.book.proofs.AcceptedOrRefused.{answered}
 use Rattle.book.proofs.Tables.{entry_drop}
 use Rattle.book.proofs.Names.{name_bytes_lem}
+use Rattle.book.proofs.Acts.{aside_apart}
 use Rattle.book.proofs.Formed.{Formed, formed}
 use Rattle.book.proofs.Views.{open_lt}
 use Rattle.book.proofs.Facts.{accepted_tests, Opens, opens, Acts, acts_so, Begins, begins}
@@ -65,27 +66,30 @@ set_record_lem : (b : Book) (p : ℕ) (x : Place) → length b.places ≡ 16 →
 unfolding place_record set_record
 set_record_lem b p x size low = get_or-set_same b.places p x no_place (rw size low)
 
--- a place whose balance alone was set
-credits_set : (b : Book) (p n : ℕ) → length b.places ≡ 16 → p < 16
-    → sheet_at (set_credits b p n) p ≡ balance_sheet (name_bytes (place_record b p).subject) (name_bytes b.unit) (whole_amount n)
+-- its sheet
+record_sheet : (b : Book) (p : ℕ) (x : Place) → length b.places ≡ 16 → p < 16
+    → sheet_at (set_record b p x) p ≡ balance_sheet (name_bytes x.subject) (name_bytes b.unit) x.balance
 unfolding set_record
-credits_set b p n size low = ap (λ (x : Place). balance_sheet (name_bytes x.subject) (name_bytes b.unit) x.balance) (set_record_lem b p _ size low)
+record_sheet b p x size low = ap (λ (y : Place). balance_sheet (name_bytes y.subject) (name_bytes b.unit) y.balance) (set_record_lem b p x size low)
 
 -- a transfer that is set alters no account
 transfer_apart : (b : Book) (t d : ℕ) (r : Transfer) (p : ℕ) → sheet_at (set_transfer b t d r) p ≡ sheet_at b p
 unfolding place_record set_transfer
 transfer_apart b t d r p = refl
 
--- act and begin: apply of an operation that keeps the texts and makes n credits writes the account's sheet with n credits
+-- act and begin: apply of an operation that keeps the texts and makes n credits writes the sheet of the account with n credits, whatever it has
+-- reserved
 module _ (b : Book) (f : Formed b) (p : ℕ) (low : p < 16) (here : is_some (place_at b p) ≡ true) (sized : Sized (place_record b p).balance) (size : length b.places ≡ 16) where
   applied : (o : ℕ) → profile_of o ≡ 2 → (i : List ℕ) → sound_as Input i ≡ true → (n : ℕ)
       → balance_next amount_in ((seen b).place p) (field i) o ≡ made (Part.State subject) (Part.State unit) (whole_amount n)
-      → (old : List ℕ) → buffer_after (next_of 2 o (sheet_at b p) i) (sheet_at b p) i old ≡ put_into (sheet_at (set_credits b p n) p) old
+      → (x : Place) → x.subject ≡ (place_record b p).subject → x.balance ≡ whole_amount n
+      → (old : List ℕ) → buffer_after (next_of 2 o (sheet_at b p) i) (sheet_at b p) i old ≡ put_into (sheet_at (set_record b p x) p) old
   unfolding bytes_of
-  applied o of i sound n makes old =
+  applied o of i sound n makes x its_subject its_balance old =
       written (next_of 2 o (sheet_at b p) i) (sheet_at b p) i (Part.State subject) (Part.State unit) (whole_amount n) old
       (seen_next (sheet_at b p) ((seen b).place p) (account_seen b f p low here sized) (account_sound b f p low here sized 1) i sound o of ∙ makes)
-      ∙ ap (λ (x : List ℕ). put_into x old) (rw (account_fields b f p low here sized subject, account_fields b f p low here sized unit) (sym (credits_set b p n size low)))
+      ∙ ap (λ (y : List ℕ). put_into y old)
+      (rw (account_fields b f p low here sized subject, account_fields b f p low here sized unit, ← its_subject, ← its_balance) (sym (record_sheet b p x size low)))
 
 -- ---- the four steps
 
@@ -111,7 +115,8 @@ act_writes_its_sheet b i p o size named sized h old =
     let f = formed b (accepted_tests b (Act p o i) h).0 in
     let t : Acts (seen b) p o i = acts_so (seen b) p o i (accepted_tests b (Act p o i) h).1 in
     rw (next_accepted b (Act p o i) h)
-    (applied b f p t.low (open_there b p t.here) sized size o (of_balances o t.operation) i (sheet_is_input i t.sheet) (changed o (held_at b p) (credits_in amount i)) (act_is_apply b p o i named h) old)
+    (applied b f p t.low (open_there b p t.here) sized size o (of_balances o t.operation) i (sheet_is_input i t.sheet) _ (act_is_apply b p o i named h) _
+    (aside_apart (credits_in amount i) _ (doing o)).0 (aside_apart (credits_in amount i) _ (doing o)).1 old)
 
 -- Apply of transfer, by the sheet `sent`, writes for the source's sheet the source's sheet after an accepted begin.
 -- Premises: those of act, of the source; `sent` is a sound input, the step's sheet with the destination's subject as to_subject.
@@ -123,7 +128,7 @@ begin_writes_its_sheet b i f g t size named sized h sent its-fields its-layout o
     let k : Begins (seen b) f g t i = begins (seen b) f g t i (accepted_tests b (Begin f g t i) h).1 in
     let makes = ap (λ (x : ℕ → Field). balance_next amount_in ((seen b).place f) x 15) (sent_is b g i sent (open_there b g k.to_here) its-fields) ∙ begin_is_apply b f g t i named h in
     rw (next_accepted b (Begin f g t i) h, transfer_apart (set_credits b f (held_at b f - credits_in amount i)) t 1 _ f)
-    (applied b w f k.low_from (open_there b f k.from_here) sized size 15 refl sent its-layout (held_at b f - credits_in amount i) makes old)
+    (applied b w f k.low_from (open_there b f k.from_here) sized size 15 refl sent its-layout (held_at b f - credits_in amount i) makes _ refl refl old)
 
 -- Credit, by the sheets of both ends, writes the sheet of the end where the credits land after an accepted finish or cancel.
 -- Premises: 16 places, `opened` of 16 bits, and that end's names of 32 bytes, as every book has that code holds; both balances are of
@@ -150,7 +155,7 @@ end_writes_its_sheet b t back size few named sized h sent its-layout its_subject
     (rw (account_seen b d.form f low-f here_f (sized (not back)), account_seen b d.form g low-g here_g (sized back)) (end_is_credit b t back (field sent) few named h its_subject its-amount)) in
     written (credit_of 15 (sheet_at b f) (sheet_at b g) sent) (sheet_at b f) sent (Part.Input to_subject) (Part.State unit) (whole_amount n) old makes
     ∙ ap (λ (x : List ℕ). put_into x old)
-    (rw (its_subject, account_fields b d.form f low-f here_f (sized (not back)) unit, d.left, transfer_apart (set_credits b g n) t 0 blank_transfer g) (sym (credits_set b g n size low-g)))
+    (rw (its_subject, account_fields b d.form f low-f here_f (sized (not back)) unit, d.left, transfer_apart (set_credits b g n) t 0 blank_transfer g) (sym (record_sheet b g _ size low-g)))
 
 -- The record of a finished or cancelled transfer is zeros, and its number is free again. Premises: 8 transfers; the step is accepted.
 pub ended_is_zeros : (b : Book) (t : ℕ) (back : Bool) → length b.transfers ≡ 8 → answer b (ending t back) ≡ Ok tt

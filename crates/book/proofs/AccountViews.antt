@@ -16,8 +16,8 @@ use Rattle.resource_state.specs.declared.Part.TheVariants.{State, Input}
 use Rattle.resource_state.specs.declared.ResourceState.TheVariants.{FungibleBalance}
 use Rattle.transition.specs.Credit.{credit_by}
 use Rattle.book.specs.Places.{place_view}
-use Rattle.book.specs.Book.{credits, whole_amount, name_bytes, no_place, place_record, transfer_record, place_at, is_some, open_place, set_record, set_credits, set_transfer}
-use Rattle.book.specs.Steps.{Open, Act, Begin, credits_in, bytes_in, changed, held_at, sent_to, seen, answer, next}
+use Rattle.book.specs.Book.{credits, whole_amount, name_bytes, no_place, place_record, transfer_record, place_at, is_some, open_place, set_balance, set_record, set_credits, set_transfer}
+use Rattle.book.specs.Steps.{Open, Act, Begin, credits_in, bytes_in, doing, changed, held_at, sent_to, seen, answer, next}
 use Rattle.book.specs.declared.Place.{Place}
 use Rattle.book.specs.declared.Transfer.{Transfer}
 use Rattle.book.specs.declared.Book.{Book}
@@ -25,6 +25,7 @@ use Rattle.book.proofs.Tables.{entry_put, entry_set}
 use Rattle.book.proofs.Names.{name_bytes_lem}
 use Rattle.book.proofs.Facts.{accepted_tests, Opens, opens, Acts, acts_so, Begins, begins}
 use Rattle.book.proofs.Views.{place_raw, open_lt}
+use Rattle.book.proofs.Acts.{aside_apart}
 use Rattle.book.proofs.Whole.{next_accepted}
 use Rattle.book.proofs.Applies.{Named, made, open_there, view_is, open_is_apply, act_is_apply, begin_is_apply, end_is_credit}
 use Rattle.book.proofs.Endings.{ending, end, Ended, ended}
@@ -46,10 +47,10 @@ opened_view : (b : Book) (p : ℕ) (x : Place) → length b.places ≡ 16 → p 
 unfolding seen place_at open_place
 opened_view b p x size low = rw (entry_put no_place b.opened b.places p x (rw size low)).there
 
-set_view : (b : Book) (p n : ℕ) → length b.places ≡ 16 → p < 16 → is_some (place_at b p) ≡ true
-    → (seen (set_credits b p n)).place p ≡ place_view (name_bytes (place_record b p).subject) (name_bytes b.unit) (whole_amount n)
+set_view : (b : Book) (p : ℕ) (x : Place) → length b.places ≡ 16 → p < 16 → is_some (place_at b p) ≡ true
+    → (seen (set_record b p x)).place p ≡ place_view (name_bytes x.subject) (name_bytes b.unit) x.balance
 unfolding seen place_at set_record
-set_view b p n size low here = rw (entry_set no_place b.opened b.places p _ (rw size low) (place_raw b p here).0).there
+set_view b p x size low here = rw (entry_set no_place b.opened b.places p _ (rw size low) (place_raw b p here).0).there
 
 transfer_unseen : (b : Book) (t d : ℕ) (r : Transfer) (p : ℕ) → (seen (set_transfer b t d r)).place p ≡ (seen b).place p
 unfolding seen place_at set_transfer
@@ -83,8 +84,9 @@ pub act_seen : (b : Book) (p o : ℕ) (i : List ℕ) → length b.places ≡ 16 
 act_seen b p o i size named h =
     let t : Acts (seen b) p o i = acts_so (seen b) p o i (accepted_tests b (Act p o i) h).1 in
     let here = open_there b p t.here in
+    let apart = aside_apart (credits_in amount i) (set_balance (place_record b p) (whole_amount (changed o (held_at b p) (credits_in amount i)))) (doing o) in
     seen_as _ _ _ _ (State subject) (State unit) (whole_amount (changed o (held_at b p) (credits_in amount i))) (act_is_apply b p o i named h)
-    (rw (next_accepted b (Act p o i) h, subject_seen b p here (field i), unit_seen b p here (field i)) (set_view b p _ size t.low here))
+    (rw (next_accepted b (Act p o i) h, subject_seen b p here (field i), unit_seen b p here (field i)) (set_view b p _ size t.low here ∙ rw (apart.0, apart.1)))
 
 -- After a begin the source is seen as what transfer makes of it, with the destination's subject as to_subject. Premises: as of act-seen.
 pub begin_seen : (b : Book) (f g t : ℕ) (i : List ℕ) → length b.places ≡ 16 → Named b f → answer b (Begin f g t i) ≡ Ok tt
@@ -107,4 +109,4 @@ end_seen b t back inp size few named h its_subject its-amount =
     let p : ℕ = end b t back in
     let n : ℕ = held_at b p + credits (transfer_record b t).amount in
     seen_as _ _ _ _ (Input to_subject) (State unit) (whole_amount n) (end_is_credit b t back inp few named h its_subject its-amount)
-    (rw (d.left, transfer_unseen (set_credits b p n) t 0 _ p, its_subject, unit_seen b (end b t (not back)) (d.here (not back)) inp) (set_view b p n size (open_lt b few p (d.here back)) (d.here back)))
+    (rw (d.left, transfer_unseen (set_credits b p n) t 0 _ p, its_subject, unit_seen b (end b t (not back)) (d.here (not back)) inp) (set_view b p _ size (open_lt b few p (d.here back)) (d.here back)))

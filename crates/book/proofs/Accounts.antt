@@ -27,9 +27,9 @@ use Rattle.profiles.specs.Balance.{balance_rules}
 use Rattle.profiles.specs.Check.{check_of}
 use Rattle.resource_state.specs.Apply.{balance_next, next_of}
 use Rattle.book.specs.Places.{place_field, place_view, closed_view, put_field}
-use Rattle.book.specs.Book.{name_bytes, place_record, place_at, transfer_at, total, is_some, is_well_formed, name_ok}
+use Rattle.book.specs.Book.{credits, name_bytes, place_record, place_at, transfer_at, total, is_some, is_well_formed, name_ok}
 use Rattle.book.specs.Refusals.{book_answer_of, BookOutcome}
-use Rattle.book.specs.Steps.{Open, Act, Begin, credits_in, bytes_in, adds, acts, same_bytes, said, sheet_sound, sent_to, seen, answer}
+use Rattle.book.specs.Steps.{Open, Act, Begin, credits_in, bytes_in, Issuing, Releasing, doing, acts, same_bytes, said, sheet_sound, sent_to, seen, answer}
 use Rattle.book.specs.declared.Name.{Name}
 use Rattle.book.specs.declared.Book.{Book}
 use Rattle.book.proofs.Formed.{Formed, formed, and_l, and_r}
@@ -184,14 +184,14 @@ module _ (b : Book) (sound : is_well_formed b ≡ true) (i : List ℕ) (sheet : 
       (seen_check [] ((seen b).place p) (no_sheet ∙ sym (closed_seen b p closed)) refl i (sheet_is_input i sheet) 11 refl)
 
   -- An act that passes the book's own tests answers what check answers for the account's sheet.
-  -- Premises: those of `act_is_check`, so 22, 6, 4 and 25 are not met; and the balance is of two 64-bit halves.
+  -- Premises: those of `act_is_check`, so 22, 6, 4, 25 and 31 are not met; and the balance is of two 64-bit halves.
   pub act_is_its_sheet's_check : (p o : ℕ) → p < 16 → is_some (place_at b p) ≡ true → Sized (place_record b p).balance → acts o ≡ true
-      → (adds o ≡ true → total b + credits_in amount i < limit)
+      → (doing o ≡ Issuing → total b + credits_in amount i < limit) → (doing o ≡ Releasing → credits_in amount i ≤ credits (place_record b p).reserved)
       → book_answer_of (answer b (Act p o i)) ≡ profile.answer_of (check_of 2 o (sheet_at b p) i)
-  act_is_its_sheet's_check p o low here sized known room =
+  act_is_its_sheet's_check p o low here sized known room kept =
       let f = formed b sound in
       same_answer (answer b (Act p o i)) (balance_rules amount_in ((seen b).place p) (field i) o) (check_of 2 o (sheet_at b p) i)
-      (act_is_check b sound i sheet p o low here known room)
+      (act_is_check b sound i sheet p o low here known room kept)
       (seen_check (sheet_at b p) ((seen b).place p) (account_seen b f p low here sized) (account_sound b f p low here sized 1) i (sheet_is_input i sheet) o (of_balances o known))
 
   -- A begin that passes the book's own tests answers what check of transfer answers for the source's sheet and the sheet `sent`.

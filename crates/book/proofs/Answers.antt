@@ -16,13 +16,14 @@ use Rattle.registry.specs.Refusals.{Outcome}
 use Rattle.registry.proofs.Words as profile
 use Rattle.profiles.specs.Balance.{balance_rules}
 use Rattle.book.specs.Sets.{with_bit, entry}
-use Rattle.book.specs.Book.{name_bytes, no_place, no_transfer, place_record, place_at, transfer_record, transfer_at, total, is_some, is_well_formed, open_place, close_place, set_record, set_transfer}
-use Rattle.book.specs.Steps.{Step, Open, Act, Begin, Finish, Cancel, Close, credits_in, bytes_in, adds, doing, acts, said, same_bytes, after_check, sheet_sound, sent_to, tests_open, tests_act, tests_begin, seen, answer, effect, next}
+use Rattle.book.specs.Book.{credits, name_bytes, no_place, no_transfer, place_record, place_at, transfer_record, transfer_at, total, is_some, is_well_formed, open_place, close_place, set_record, set_transfer}
+use Rattle.book.specs.Steps.{Step, Open, Act, Begin, Finish, Cancel, Close, credits_in, bytes_in, Doing, Issuing, Taking, Reserving, Releasing, doing, acts, said, same_bytes, after_check, sheet_sound, sent_to, tests_open, tests_act, tests_begin, seen, answer, effect, next}
 use Rattle.book.specs.Refusals.{book_refusal_of, book_answer_of, BookOutcome}
 use Rattle.book.specs.declared.Book.{Book}
 use Rattle.book.specs.declared.error.BookError.{BookError}
-use Rattle.book.specs.declared.error.BookError.TheVariants.{Profile, UnderWay, OffTheBook, Idle, Itself, TooMuch, OtherUnit, LongName, BadBook, NotEmpty, Awaited}
+use Rattle.book.specs.declared.error.BookError.TheVariants.{Profile, UnderWay, OffTheBook, Idle, Itself, TooMuch, OtherUnit, LongName, BadBook, NotEmpty, Awaited, NotReserved}
 use Rattle.book.proofs.Tables.{bit_other}
+use Rattle.book.proofs.Views.{place_raw}
 use Rattle.book.proofs.Invariant.{view_there}
 use Rattle.std.specs.Prelude.{Ok, Err}
 
@@ -40,6 +41,7 @@ refusal_positive (LongName name) = omega arith
 refusal_positive BadBook = omega arith
 refusal_positive NotEmpty = omega arith
 refusal_positive Awaited = omega arith
+refusal_positive NotReserved = omega arith
 
 -- it is 0 exactly where the outcome is accepted
 pub zero_is_accepted : (o : BookOutcome) → (book_answer_of o).number ≡ 0 → o ≡ Ok tt
@@ -61,7 +63,7 @@ refusal_alters_nothing b s h = go (answer b s) refl
 -- ---- the answer
 
 module _ (b : Book) where
-  there : (p : ℕ) {t : Bool} → is_some (place_at b p) ≡ t → ((seen b).place p).there ≡ t
+  pub there : (p : ℕ) {t : Bool} → is_some (place_at b p) ≡ t → ((seen b).place p).there ≡ t
   unfolding seen
   there p h = view_there (name_bytes b.unit) (place_at b p) ∙ h
 
@@ -77,13 +79,17 @@ module _ (b : Book) where
   unfolding seen
   its_total = refl
 
-  has_room : (p o n : ℕ) → (adds o ≡ true → total b + n < limit) → after_check (doing o) (seen b) p n ≡ Ok tt
-  unfolding doing
-  has_room p o n room = go (adds o) refl
-    where
-      go : (x : Bool) → adds o ≡ x → after_check (doing o) (seen b) p n ≡ Ok tt
-      go true e = rw (e, its_total, lt-leb limit (total b + n) (room e))
-      go false e = rw e
+  pub its_reserved : (p : ℕ) → is_some (place_at b p) ≡ true → (seen b).reserved p ≡ credits (place_record b p).reserved
+  unfolding seen
+  its_reserved p here = rw (place_raw b p here).1
+
+  -- 25 and 31 are not met
+  passes_after : (p n : ℕ) → is_some (place_at b p) ≡ true → (k : Doing) → (k ≡ Issuing → total b + n < limit) → (k ≡ Releasing → n ≤ credits (place_record b p).reserved)
+      → after_check k (seen b) p n ≡ Ok tt
+  passes_after p n here Issuing room kept = rw (its_total, lt-leb limit (total b + n) (room refl))
+  passes_after p n here Taking room kept = refl
+  passes_after p n here Reserving room kept = refl
+  passes_after p n here Releasing room kept = rw (its_reserved p here, le-ltb (credits (place_record b p).reserved) n (kept refl))
 
   module _ (sound : is_well_formed b ≡ true) (i : List ℕ) (sheet : sheet_sound i ≡ Ok tt) where
     -- 26, 27 and 25 are not met
@@ -97,15 +103,19 @@ module _ (b : Book) where
         go (Ok _) e = rw (sound, lt-leb 16 p low, there p closed, sheet, its_unit, same, le-ltb 32 (length (bytes_in subject i)) short, its_total, lt-leb limit (total b + credits_in balance i) room, e)
         go (Err r) e = rw (sound, lt-leb 16 p low, there p closed, sheet, its_unit, same, le-ltb 32 (length (bytes_in subject i)) short, its_total, lt-leb limit (total b + credits_in balance i) room, e)
 
-    -- 25 is not met: where it adds, there is room
-    pub act_is_check : (p o : ℕ) → p < 16 → is_some (place_at b p) ≡ true → acts o ≡ true → (adds o ≡ true → total b + credits_in amount i < limit)
+    -- 25 and 31 are not met: for what it issues there is room, and what it releases is reserved
+    pub act_is_check : (p o : ℕ) → p < 16 → is_some (place_at b p) ≡ true → acts o ≡ true
+        → (doing o ≡ Issuing → total b + credits_in amount i < limit) → (doing o ≡ Releasing → credits_in amount i ≤ credits (place_record b p).reserved)
         → answer b (Act p o i) ≡ said (balance_rules amount_in ((seen b).place p) (field i) o)
     unfolding answer tests_act
-    act_is_check p o low here known room = go (balance_rules amount_in ((seen b).place p) (field i) o) refl
+    act_is_check p o low here known room kept = go (balance_rules amount_in ((seen b).place p) (field i) o) refl
       where
+        after : after_check (doing o) (seen b) p (credits_in amount i) ≡ Ok tt
+        after = passes_after p (credits_in amount i) here (doing o) room kept
+
         go : (x : Outcome) → balance_rules amount_in ((seen b).place p) (field i) o ≡ x → answer b (Act p o i) ≡ said (balance_rules amount_in ((seen b).place p) (field i) o)
-        go (Ok _) e = rw (sound, lt-leb 16 p low, there p here, sheet, known, has_room p o (credits_in amount i) room, e)
-        go (Err r) e = rw (sound, lt-leb 16 p low, there p here, sheet, known, has_room p o (credits_in amount i) room, e)
+        go (Ok _) e = rw (sound, lt-leb 16 p low, there p here, sheet, known, after, e)
+        go (Err r) e = rw (sound, lt-leb 16 p low, there p here, sheet, known, after, e)
 
     -- with the destination's subject as to_subject
     pub begin_is_check : (f g t : ℕ) → f < 16 → g < 16 → t < 8 → f ≢ g → is_some (transfer_at b t) ≡ false → is_some (place_at b f) ≡ true → is_some (place_at b g) ≡ true

@@ -6,8 +6,8 @@ use mathlib.Core.Option.{none}
 use mathlib.Core.List.{List}
 use Prim.Native.Nat.{ℕ, ◌+◌, ◌-◌, ◌^◌, ◌≤◌, ◌<◌, max}
 use native.Mathlib.Omega.{arith}
-use lib.Dec.{leb}
-use borrow.Author.Tests.{lt-ltb, le-leb, leb-false}
+use lib.Dec.{leb, ltb}
+use borrow.Author.Tests.{lt-ltb, le-leb, leb-false, ltb-false}
 use Rattle.amount.specs.Numbers.{val, limit, halves}
 use Rattle.amount.specs.Amounts.{amount_if, mantissa_at, common_scale, sum_of, difference_of}
 use Rattle.amount.specs.declared.Amount.{Amount}
@@ -20,10 +20,10 @@ use Rattle.registry.specs.Readers.{amount_in, readable, read_amount, text_in}
 use Rattle.registry.specs.Tests.{state_absent}
 use Rattle.profiles.specs.Balance.{balance_rules}
 use Rattle.book.specs.Places.{place_view, closed_view, put_field}
-use Rattle.book.specs.Book.{credits, whole_amount, name_bytes, place_record, transfer_record, place_at, transfer_at, stock_of, carried_by, balances, credits_under_way, total, is_some}
-use Rattle.book.specs.Steps.{Open, Act, Begin, credits_in, Doing, Issuing, Taking, doing, adds, seen, held_at, answer}
+use Rattle.book.specs.Book.{credits, whole_amount, name_bytes, place_record, transfer_record, place_at, transfer_at, reserved_in, stock_of, carried_by, stocks, credits_under_way, total, is_some}
+use Rattle.book.specs.Steps.{Open, Act, Begin, credits_in, Doing, Issuing, Taking, Reserving, Releasing, doing, adds, seen, held_at, answer}
 use Rattle.book.specs.declared.Book.{Book}
-use Rattle.book.specs.declared.error.BookError.TheVariants.{TooMuch}
+use Rattle.book.specs.declared.error.BookError.TheVariants.{TooMuch, NotReserved}
 use Rattle.book.proofs.Tables.{sum_part}
 use Rattle.book.proofs.Rows.{adds_is, act_affords, transfer_affords}
 use Rattle.book.proofs.Facts.{unmet, accepted_tests, Opens, opens, Acts, acts_so, Begins, begins}
@@ -85,9 +85,9 @@ difference_whole a c h k l m =
 -- ---- what a sound book holds
 
 module _ (b : Book) (f : Formed b) where
-  pub held_part : (p : ℕ) → p < 16 → is_some (place_at b p) ≡ true → held_at b p ≤ balances b
-  unfolding balances
-  held_part p low here = rw (place_raw b p here).1 at (sum_part (λ q. stock_of (place_at b q)) 16 p low)
+  pub stock_part : (p : ℕ) → p < 16 → is_some (place_at b p) ≡ true → held_at b p + credits (place_record b p).reserved ≤ stocks b
+  unfolding stocks
+  stock_part p low here = rw (place_raw b p here).1 at (sum_part (λ q. stock_of (place_at b q)) 16 p low)
 
   carried_part : (t : ℕ) → t < 8 → is_some (transfer_at b t) ≡ true → credits (transfer_record b t).amount ≤ credits_under_way b
   unfolding credits_under_way
@@ -135,28 +135,54 @@ module _ (b : Book) (p o : ℕ) (i : List ℕ) (h : answer b (Act p o i) ≡ Ok 
   unfolding seen
   here = sym (view_there (name_bytes b.unit) (place_at b p)) ∙ facts.here
 
-  held_fits : held_at b p ≤ total b
+  stock_fits : held_at b p + credits (place_record b p).reserved ≤ total b
   unfolding total
-  held_fits = omega (arith, held_part b sound p facts.low here)
+  stock_fits = omega (arith, stock_part b sound p facts.low here)
 
-  -- 12, 13 and 17: no overflow
+  -- by 31
+  pub released : doing o ≡ Releasing → credits_in amount i ≤ credits (place_record b p).reserved
+  unfolding seen
+  released e =
+      let kept : ℕ = reserved_in (place_at b p) in
+      rw (place_raw b p here).1
+      at (ltb-false kept (credits_in amount i) (unmet (ltb kept (credits_in amount i)) NotReserved (rw e at facts.after_check_lem)))
+
+  -- by 15
+  pub within : adds o ≡ false → credits_in amount i ≤ held_at b p
+  unfolding seen credits_in
+  within down =
+      let w : balance_rules amount_in (place_view (name_bytes (place_record b p).subject) (name_bytes b.unit) (place_record b p).balance) (field i) o ≡ Ok tt =
+      rw (place_raw b p here).1 at facts.check in
+      let a = act_affords (name_bytes (place_record b p).subject) (name_bytes b.unit) (place_record b p).balance (sound.whole_places p facts.low).balance (field i) o facts.operation w in
+      a.within down
+
+  -- 12 and 13, by 25, and 17, whose credits were reserved there: no overflow
   pub act_adds : adds o ≡ true → sum_of (place_record b p).balance (asked amount i) ≡ Ok (whole_amount (held_at b p + credits_in amount i))
   unfolding seen
   act_adds up = plus_asked (place_record b p).balance i (sound.whole_places p facts.low).balance (go (doing o) refl)
     where
       go : (k : Doing) → doing o ≡ k → held_at b p + credits_in amount i < limit
       go Issuing e =
-          omega (arith, held_fits, leb-false limit (total b + credits_in amount i) (unmet (leb limit (total b + credits_in amount i)) TooMuch (rw e at facts.after_check_lem)))
+          omega (arith, stock_fits, leb-false limit (total b + credits_in amount i) (unmet (leb limit (total b + credits_in amount i)) TooMuch (rw e at facts.after_check_lem)))
+      go Releasing e = omega (arith, stock_fits, sound.fits, released e)
       go Taking e = absurd (false≢true (sym (adds_is o Taking e) ∙ up))
+      go Reserving e = absurd (false≢true (sym (adds_is o Reserving e) ∙ up))
 
   -- 14, 16, 18 and 19: no underflow
   pub act_takes : adds o ≡ false → difference_of (place_record b p).balance (asked amount i) ≡ Ok (whole_amount (held_at b p - credits_in amount i))
-  unfolding seen credits_in
   act_takes down =
-      let w : balance_rules amount_in (place_view (name_bytes (place_record b p).subject) (name_bytes b.unit) (place_record b p).balance) (field i) o ≡ Ok tt =
-      rw (place_raw b p here).1 at facts.check in
-      let a = act_affords (name_bytes (place_record b p).subject) (name_bytes b.unit) (place_record b p).balance (sound.whole_places p facts.low).balance (field i) o facts.operation w in
-      less_asked (place_record b p).balance i (sound.whole_places p facts.low).balance (omega (arith, sound.fits, held_fits)) (a.within down)
+      less_asked (place_record b p).balance i (sound.whole_places p facts.low).balance (omega (arith, sound.fits, stock_fits)) (within down)
+
+  -- 16 and 17: what is reserved is an amount of 128 bits too, neither 17 nor 18 arises
+  pub reserve_adds : doing o ≡ Reserving
+      → sum_of (place_record b p).reserved (asked amount i) ≡ Ok (whole_amount (credits (place_record b p).reserved + credits_in amount i))
+  reserve_adds e =
+      plus_asked (place_record b p).reserved i (sound.whole_places p facts.low).reserved (omega (arith, sound.fits, stock_fits, within (adds_is o Reserving e)))
+
+  pub release_takes : doing o ≡ Releasing
+      → difference_of (place_record b p).reserved (asked amount i) ≡ Ok (whole_amount (credits (place_record b p).reserved - credits_in amount i))
+  release_takes e =
+      less_asked (place_record b p).reserved i (sound.whole_places p facts.low).reserved (omega (arith, sound.fits, stock_fits)) (released e)
 
 -- begin: no underflow
 pub begin_takes : (b : Book) (f g t : ℕ) (i : List ℕ) → answer b (Begin f g t i) ≡ Ok tt
@@ -171,7 +197,7 @@ begin_takes b f g t i h =
     let a = transfer_affords (name_bytes (place_record b f).subject) u (place_record b f).balance (w.whole_places f k.low_from).balance
     (put_field (field i) to_subject (text (name_bytes (place_record b g).subject)))
     (rw ((place_raw b f here_f).1, (place_raw b g here_g).1) at k.check) in
-    less_asked (place_record b f).balance i (w.whole_places f k.low_from).balance (omega (arith, w.fits, held_part b w f k.low_from here_f)) (a.within refl)
+    less_asked (place_record b f).balance i (w.whole_places f k.low_from).balance (omega (arith, w.fits, stock_part b w f k.low_from here_f)) (a.within refl)
 
 -- finish and cancel: where the transfer's credits land there is room for them. `opened` is a 16-bit number
 pub end_fits : (b : Book) (t : ℕ) (back : Bool) → b.opened < 2 ^ 16 → Ended b t back
@@ -179,7 +205,7 @@ pub end_fits : (b : Book) (t : ℕ) (back : Bool) → b.opened < 2 ^ 16 → Ende
 unfolding seen total
 end_fits b t back few e =
     let low : end b t back < 16 = open_lt b few (end b t back) (e.here back) in
-    (low, omega (arith, e.form.fits, held_part b e.form (end b t back) low (e.here back), carried_part b e.form t e.facts.low e.facts.moving))
+    (low, omega (arith, e.form.fits, stock_part b e.form (end b t back) low (e.here back), carried_part b e.form t e.facts.low e.facts.moving))
 
 -- so no overflow
 pub end_adds : (b : Book) (t : ℕ) (back : Bool) → b.opened < 2 ^ 16 → answer b (ending t back) ≡ Ok tt

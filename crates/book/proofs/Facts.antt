@@ -206,7 +206,7 @@ module _ (s : Seen) (t : ℕ) where
 pub record Closes (s : Seen) (p : ℕ) : Type 0 where
   pub low : p < 16
   pub here : (s.place p).there ≡ true
-  pub empty : s.held p ≡ 0
+  pub empty : s.held p + s.reserved p ≡ 0
   pub unawaited : s.awaited p ≡ false
 
 module _ (s : Seen) (p : ℕ) where
@@ -214,13 +214,14 @@ module _ (s : Seen) (p : ℕ) where
   unfolding tests_close
   closes h =
       let t = passed (tests_close s p) h in
+      let all : ℕ = s.held p + s.reserved p in
       record {
         low = leb-false 16 p (unmet (leb 16 p) OffTheBook t.0);
         here = not-false (s.place p).there (unmet (not (s.place p).there) (Profile Unborn) t.1.0);
-        empty = eqb-true (s.held p) 0 (not-false (eqb (s.held p) 0) (unmet (not (eqb (s.held p) 0)) NotEmpty t.1.1.0));
+        empty = eqb-true all 0 (not-false (eqb all 0) (unmet (not (eqb all 0)) NotEmpty t.1.1.0));
         unawaited = unmet (s.awaited p) Awaited t.1.1.1.0;
       }
 
   -- 29 is not met
-  pub emptied : s.held p ≡ 0 → refused_if (not (eqb (s.held p) 0)) NotEmpty ≡ Ok tt
-  emptied h = met_not (not (eqb (s.held p) 0)) NotEmpty (ap not (eq-eqb (s.held p) 0 h))
+  pub emptied : s.held p + s.reserved p ≡ 0 → refused_if (not (eqb (s.held p + s.reserved p) 0)) NotEmpty ≡ Ok tt
+  emptied h = met_not (not (eqb (s.held p + s.reserved p) 0)) NotEmpty (ap not (eq-eqb (s.held p + s.reserved p) 0 h))

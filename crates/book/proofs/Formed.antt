@@ -22,12 +22,16 @@ and_r false t h = absurd (false≢true h)
 -- all scales of a place are 0
 pub record Whole (x : Place) : Type 0 where
   pub balance : x.balance.scale ≡ 0
+  pub reserved : x.reserved.scale ≡ 0
 
 pub whole : (x : Place) → scales_ok x ≡ true → Whole x
-whole x h = record { balance = eqb-true x.balance.scale 0 h }
+whole x h =
+    let s : Bool = eqb x.balance.scale 0 in
+    let t : Bool = eqb x.reserved.scale 0 in
+    record { balance = eqb-true x.balance.scale 0 (and_l s t h); reserved = eqb-true x.reserved.scale 0 (and_r s t h) }
 
-scales : (x : Place) → Whole x → scales_ok x ≡ true
-scales x w = rw w.balance
+pub scales : (x : Place) → Whole x → scales_ok x ≡ true
+scales x w = rw (w.balance, w.reserved)
 
 pub record Formed (b : Book) : Type 0 where
   pub fits : total b < limit

@@ -128,7 +128,7 @@ set_both {d} {b} {l} v p low here x w name y same room =
 
 -- its credits alone
 pub credits_whole : (x : Place) (n : ℕ) → Whole x → Whole (set_balance x (whole_amount n))
-credits_whole x n w = record { balance = refl }
+credits_whole x n w = record { balance = refl; reserved = w.reserved }
 
 pub credits_both : {d : ℕ → Bool} {b : Book} {l : Plain} → Inv d b l → (p : ℕ) → p < 16 → is_some (place_at b p) ≡ true → (m k : ℕ)
     → k ≡ m + coming d b p → total b + m < limit + credits (place_record b p).balance

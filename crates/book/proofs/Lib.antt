@@ -22,6 +22,7 @@ pub mod AcceptedOrRefused
 pub mod PlainWorked
 pub mod Answers
 pub mod Effects
+pub mod Reserved
 pub mod Applies
 pub mod Accounts
 pub mod AccountViews

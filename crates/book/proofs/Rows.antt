@@ -7,7 +7,7 @@ use native.Mathlib.Nat.{le_trans}
 use native.Mathlib.Omega.{arith}
 use lib.Dec.{eqb}
 use lib.ListN.{length}
-use borrow.Author.Tests.{eqb-false}
+use borrow.Author.Tests.{eqb-true, eqb-false}
 use Rattle.amount.specs.declared.Amount.{Amount}
 use Rattle.amount.proofs.Halves.{val_halves}
 use Rattle.sheet.specs.Fields.{Field, absent, text, figure, other, field, Sight, subject, amount, to_subject, authorized_by}
@@ -20,7 +20,7 @@ use Rattle.profiles.specs.Balance.{balance_rules, debited, credited}
 use Rattle.book.specs.Places.{place_view, closed_view}
 use Rattle.book.proofs.Accepted.{Within, debit_accepted, debit_accepts, amount_in_whole}
 use Rattle.book.specs.Book.{credits}
-use Rattle.book.specs.Steps.{adds, acts, Doing, Issuing, Taking, doing, bytes_in}
+use Rattle.book.specs.Steps.{adds, acts, Doing, Issuing, Taking, Reserving, Releasing, doing, bytes_in}
 use Rattle.std.specs.Prelude.{Ok, Err}
 
 -- ---- create
@@ -47,14 +47,26 @@ create_subject i h = text_there subject (field i subject) (then_both (text_in su
 abbrev pub rises : Doing → Bool
 rises Issuing = true
 rises Taking = false
+rises Reserving = false
+rises Releasing = true
+
+reserve_subtracts : adds 16 ≡ false
+unfolding adds
+reserve_subtracts = refl
+
+release_adds : adds 17 ≡ true
+unfolding adds
+release_adds = refl
 
 pub adds_is : (o : ℕ) (k : Doing) → doing o ≡ k → adds o ≡ rises k
 unfolding doing
-adds_is o k e = go (adds o) refl
+adds_is o k e = go (eqb o 16) refl (eqb o 17) refl (adds o) refl
   where
-    go : (x : Bool) → adds o ≡ x → adds o ≡ rises k
-    go true z = z ∙ ap rises (rw z at e)
-    go false z = z ∙ ap rises (rw z at e)
+    go : (x : Bool) → eqb o 16 ≡ x → (y : Bool) → eqb o 17 ≡ y → (z : Bool) → adds o ≡ z → adds o ≡ rises k
+    go true x y y' z z' = ap adds (eqb-true o 16 x) ∙ reserve_subtracts ∙ ap rises (rw x at e)
+    go false x true y z z' = ap adds (eqb-true o 17 y) ∙ release_adds ∙ ap rises (rw (x, y) at e)
+    go false x false y true z = z ∙ ap rises (rw (x, y, z) at e)
+    go false x false y false z = z ∙ ap rises (rw (x, y, z) at e)
 
 -- what an accepted check says at a place whose balance is b, up: whether the operation adds, rule: its tests at a balance state
 pub record Affords (b : Amount) (inp : ℕ → Field) (up : Bool) (rule : Sight → Outcome) : Type 0 where

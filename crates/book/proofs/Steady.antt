@@ -4,13 +4,13 @@ use mathlib.Core.Path.{◌≡◌, refl, sym, ap, ◌∙◌}
 use mathlib.Core.Logic.{◌≢◌}
 use mathlib.Core.Bool.{Bool, true}
 use mathlib.Core.Option.{Option, some, none}
-use mathlib.Core.List.{[]}
+use mathlib.Core.List.{List, []}
 use Prim.Native.Nat.{ℕ, zero, suc, ◌+◌, ◌<◌}
 use native.Mathlib.Omega.{arith}
 use Rattle.amount.specs.Numbers.{limit}
 use Rattle.sheet.specs.Walk.{sum}
-use Rattle.book.specs.Book.{place_at, transfer_at, stock_of, carried_by, balances, credits_under_way, total, is_some, transfer_ok, is_well_formed}
-use Rattle.book.specs.Steps.{Step, Cancel, Close, flow, Neither, inflow, outflow, way, answer, effect, next}
+use Rattle.book.specs.Book.{place_at, transfer_at, stock_of, carried_by, stocks, credits_under_way, total, is_some, transfer_ok, is_well_formed}
+use Rattle.book.specs.Steps.{Step, Act, Cancel, Close, doing, flow, Neither, inflow, outflow, way, answer, effect, next}
 use Rattle.book.specs.Plain.{Plain, stock, plain_total}
 use Rattle.book.specs.Claim.{keep, issued, taken, turned, cancelled, shown, cell_at}
 use Rattle.book.specs.declared.Place.{Place}
@@ -68,14 +68,14 @@ module _ (d : ℕ → Bool) (b : Book) (g : Good b) where
     where
       go : (o : Option Place) → place_at b p ≡ o → stock (credited (coming d b p) (shown o)) ≡ stock_of o + coming d b p
       go none e = let z = coming_closed d b g p (ap is_some e) in omega (arith, z)
-      go (some x) e = refl
+      go (some x) e = omega arith
 
   sums_is : plain_total plain_of ≡ total b
-  unfolding plain_total total balances
+  unfolding plain_total total stocks
   sums_is =
       sum_same (λ p. stock_of (place_at b p) + coming d b p) (λ p. stock (plain_of p)) 16 (λ p k. stock_is p)
       ∙ sum_add (λ p. stock_of (place_at b p)) (coming d b) 16
-      ∙ ap (λ (z : ℕ). balances b + z) all_coming
+      ∙ ap (λ (z : ℕ). stocks b + z) all_coming
 
   has_plain : total b < limit → Inv d b plain_of
   has_plain f = record { good = g; fits = f; sums = sums_is; matches = λ p k. refl }
@@ -135,3 +135,12 @@ cancel_keeps_the_sum b t = neither_moves b (Cancel t) refl
 -- request 2: "A close never strands credits"
 pub close_keeps_the_sum : (b : Book) (p : ℕ) → Shape b → total (next b (Close p)) ≡ total b
 close_keeps_the_sum b p = neither_moves b (Close p) refl
+
+-- request 5, of reserve and release: "neither step issues or takes any more"
+pub reserve_keeps_the_sum : (b : Book) (p : ℕ) (i : List ℕ) → Shape b → total (next b (Act p 16 i)) ≡ total b
+unfolding doing
+reserve_keeps_the_sum b p i = neither_moves b (Act p 16 i) refl
+
+pub release_keeps_the_sum : (b : Book) (p : ℕ) (i : List ℕ) → Shape b → total (next b (Act p 17 i)) ≡ total b
+unfolding doing
+release_keeps_the_sum b p i = neither_moves b (Act p 17 i) refl

@@ -13,7 +13,7 @@ use borrow.Author.Tests.{eq-eqb, ne_eqb, eqb-true, eqb-false}
 use Rattle.amount.specs.Numbers.{limit}
 use Rattle.sheet.specs.Walk.{sum}
 use Rattle.book.specs.Sets.{bit, entry}
-use Rattle.book.specs.Book.{credits, blank_place, blank_transfer, no_place, no_transfer, place_record, transfer_record, place_at, transfer_at, stock_of, carried_by, balances, credits_under_way, total, names_place, awaited, is_some, name_ok, place_ok, transfer_ok, is_well_formed, set_opened, set_pending, set_places, set_transfers, open_place, close_place, set_record, set_transfer}
+use Rattle.book.specs.Book.{credits, blank_place, blank_transfer, no_place, no_transfer, place_record, transfer_record, place_at, transfer_at, stock_of, carried_by, stocks, credits_under_way, total, names_place, awaited, is_some, name_ok, place_ok, transfer_ok, is_well_formed, set_opened, set_pending, set_places, set_transfers, open_place, close_place, set_record, set_transfer}
 use Rattle.book.specs.declared.Place.{Place}
 use Rattle.book.specs.declared.Transfer.{Transfer}
 use Rattle.book.specs.declared.Book.{Book}
@@ -187,7 +187,7 @@ coming_same d b c e q =
 
 module _ {b c : Book} {p : ℕ} {x : Option Place} (e : PlaceSet b c p x) where
   pub total_place : p < 16 → total c + stock_of (place_at b p) ≡ total b + stock_of x
-  unfolding total balances credits_under_way
+  unfolding total stocks credits_under_way
   total_place h =
       omega (
         arith,
@@ -197,7 +197,7 @@ module _ {b c : Book} {p : ℕ} {x : Option Place} (e : PlaceSet b c p x) where
 
 module _ {b c : Book} {t : ℕ} {y : Option Transfer} (e : TransferSet b c t y) where
   pub total_transfer : t < 8 → total c + carried_by (transfer_at b t) ≡ total b + carried_by y
-  unfolding total balances credits_under_way
+  unfolding total stocks credits_under_way
   total_transfer h =
       omega (
         arith,

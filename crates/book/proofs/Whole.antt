@@ -16,7 +16,7 @@ use Rattle.sheet.specs.Fields.{unit}
 use Rattle.registry.specs.declared.error.ProfileError.TheVariants.{Empty}
 use Rattle.sheet.specs.Walk.{every}
 use Rattle.book.specs.Sets.{bit, with_bit, occurrences}
-use Rattle.book.specs.Book.{name_bytes, name_of, blank_place, blank_transfer, blank_book, no_place, no_transfer, place_record, transfer_record, place_at, transfer_at, stock_of, carried_by, balances, credits_under_way, total, name_ok, set_unit, scales_ok, set_record, set_transfer}
+use Rattle.book.specs.Book.{name_bytes, name_of, blank_place, blank_transfer, blank_book, no_place, no_transfer, place_record, transfer_record, place_at, transfer_at, stock_of, carried_by, stocks, credits_under_way, total, name_ok, set_unit, scales_ok, set_record, set_transfer}
 use Rattle.book.specs.Steps.{Step, Open, Act, Begin, Finish, Cancel, Close, Route, Way, Begins, Ends, Stays, way, refused_if, first_refusal, tests_of, seen, answer, effect, next, start_answer, start_book}
 use Rattle.book.specs.Plain.{Holding, Plain, empty_plain, stock, plain_total, plain_answer, plain_effect, plain_next}
 use Rattle.book.specs.Claim.{run, accepted_of, turned, cancelled, left_out, rebuilt, plain_run, PlainAccepts, issued, taken, route, routes_under_way, cell_at, EachOnce, Sound, Settled, Claim}
@@ -169,7 +169,7 @@ module _ (u : List ℕ) (h : start_answer u ≡ Ok tt) where
   no_transfer_lem t = rw fresh (entry_out no_transfer 0 (replicate 8 blank_transfer) t (bit_zero t))
 
   total_fresh : total (start_book u) ≡ 0
-  unfolding total balances credits_under_way
+  unfolding total stocks credits_under_way
   total_fresh =
       omega (
         arith,

@@ -1,5 +1,5 @@
 -- Sessions computed on the definitions, their sheets as bytes: document 01's worked session, one with acts that ends with a transfer under
--- way, two with cancels and two with closes. What is expected is worked out by hand from the documents.
+-- way, two with cancels, two with closes and two with reserved amounts. What is expected is worked out by hand from the documents.
 use mathlib.Core.Path.{◌≡◌, refl}
 use mathlib.Core.List.{List, [], ◌∷◌, map}
 use mathlib.Core.Option.{Option, some, none}
@@ -19,7 +19,7 @@ use Rattle.registry.specs.declared.error.Answer.{Answer}
 use Rattle.profiles.specs.Balance.{balance_rules}
 use Rattle.book.specs.Sets.{bit, with_bit, entry, any}
 use Rattle.book.specs.Refusals.{book_answer_of}
-use Rattle.book.specs.Book.{whole_amount, name_bytes, name_of, blank_name, blank_place, blank_transfer, blank_book, place_record, transfer_record, place_at, transfer_at, balances, credits_under_way, total, awaited, name_ok, is_well_formed, set_opened, open_place, close_place, set_record, set_transfer}
+use Rattle.book.specs.Book.{whole_amount, name_bytes, name_of, blank_name, blank_place, blank_transfer, blank_book, place_record, transfer_record, place_at, transfer_at, stocks, credits_under_way, total, awaited, name_ok, is_well_formed, set_opened, open_place, close_place, set_record, set_transfer}
 use Rattle.book.specs.Steps.{Step, Open, Act, Begin, Finish, Cancel, Close, credits_in, bytes_in, adds, acts, doing, tests_open, tests_act, tests_begin, tests_finish, tests_close, seen, answer, next, start_answer, start_book}
 use Rattle.book.specs.Plain.{Holding}
 use Rattle.book.specs.Claim.{run, cell_at}
@@ -61,13 +61,19 @@ done = numbered 0 0
 abbrev pub short : ℕ → ℕ → Answer
 short held asked = record { number = 15; detail = 0; available = whole_amount held; requested = whole_amount asked; length = 0 }
 
--- a place whose subject is `N` and a digit
+-- a place whose subject is `N` and a digit, and which has r reserved
+abbrev pub account_with : ℕ → ℕ → ℕ → Place
+account_with name n r = record { subject = name_of (78 ∷ name ∷ []); balance = whole_amount n; reserved = whole_amount r }
+
 abbrev pub account : ℕ → ℕ → Place
-account name n = record { subject = name_of (78 ∷ name ∷ []); balance = whole_amount n }
+account name n = account_with name n 0
 
 -- what is shown of it
+abbrev pub shows_with : ℕ → ℕ → ℕ → Option Holding
+shows_with name n r = some (record { subject = 78 ∷ name ∷ []; balance = n; reserved = r })
+
 abbrev pub shows : ℕ → ℕ → Option Holding
-shows name n = some (record { subject = 78 ∷ name ∷ []; balance = n })
+shows name n = shows_with name n 0
 
 -- the book with places 0 and 1 open
 abbrev pub left : Place → Place → ℕ → List Transfer → Book
@@ -88,7 +94,7 @@ session_left = left (account 49 0) (account 50 5) 0 (replicate 8 blank_transfer)
 
 -- the answers are 0, 0, 0, 15 (none held, 5 asked), 0; then `N1` holds 0 and `N2` holds 5, and nothing is under way
 pub worked : Worked session (done ∷ done ∷ done ∷ short 0 5 ∷ done ∷ []) session_left (shows 49 0 ∷ shows 50 5 ∷ [])
-unfolding val limit halves order_of all_digits digits_after decimal amount_if read_of compare_of zeros every sum prior entry_at entries_from lookup sound_as field text_in bytes_of marked parsed amount_by amount_of state_absent state_there above_zero held_by balance_rules bit with_bit entry name_bytes name_of blank_name blank_place blank_transfer blank_book place_record transfer_record place_at transfer_at balances credits_under_way total name_ok is_well_formed open_place set_record set_transfer credits_in bytes_in tests_open tests_begin tests_finish seen answer next start_answer start_book
+unfolding val limit halves order_of all_digits digits_after decimal amount_if read_of compare_of zeros every sum prior entry_at entries_from lookup sound_as field text_in bytes_of marked parsed amount_by amount_of state_absent state_there above_zero held_by balance_rules bit with_bit entry name_bytes name_of blank_name blank_place blank_transfer blank_book place_record transfer_record place_at transfer_at stocks credits_under_way total name_ok is_well_formed open_place set_record set_transfer credits_in bytes_in tests_open tests_begin tests_finish seen answer next start_answer start_book
 worked = (refl, refl, refl)
 
 -- ---- a second session: `N1` is opened with 5 and `N2` with 2; `N1` is credited 4 and holds 9; 3 spent by `N2` are short of its 2; a mint of 7
@@ -106,7 +112,7 @@ second_left =
     (blank_transfer ∷ blank_transfer ∷ record { from = 0; to = 1; amount = whole_amount 6 } ∷ replicate 5 blank_transfer)
 
 pub second_worked : Worked second (done ∷ done ∷ done ∷ short 2 3 ∷ numbered 7 10 ∷ done ∷ done ∷ []) second_left (shows 49 3 ∷ shows 50 9 ∷ [])
-unfolding val limit halves order_of all_digits digits_after decimal amount_if read_of compare_of zeros every sum prior entry_at entries_from lookup sound_as field text_in bytes_of marked parsed amount_by amount_of state_absent state_there above_zero held_by balance_rules bit with_bit entry name_bytes name_of blank_name blank_place blank_transfer blank_book place_record transfer_record place_at transfer_at balances credits_under_way total name_ok is_well_formed open_place set_record set_transfer credits_in bytes_in adds acts doing tests_open tests_act tests_begin seen answer next start_answer start_book
+unfolding val limit halves order_of all_digits digits_after decimal amount_if read_of compare_of zeros every sum prior entry_at entries_from lookup sound_as field text_in bytes_of marked parsed amount_by amount_of state_absent state_there above_zero held_by balance_rules bit with_bit entry name_bytes name_of blank_name blank_place blank_transfer blank_book place_record transfer_record place_at transfer_at stocks credits_under_way total name_ok is_well_formed open_place set_record set_transfer credits_in bytes_in adds acts doing tests_open tests_act tests_begin seen answer next start_answer start_book
 second_worked = (refl, refl, refl)
 
 -- ---- document 02, request 1. `N1` holds 5 and sends them by number 0; they are cancelled, and `N1` holds 5 again; a second cancel finds
@@ -119,7 +125,7 @@ again =
 
 pub again_worked : Worked again (done ∷ done ∷ done ∷ done ∷ numbered 23 0 ∷ done ∷ done ∷ done ∷ done ∷ []) (left (account 49 2) (account 50 3) 0 (replicate 8 blank_transfer))
     (shows 49 2 ∷ shows 50 3 ∷ [])
-unfolding val limit halves order_of all_digits digits_after decimal amount_if read_of compare_of zeros every sum prior entry_at entries_from lookup sound_as field text_in bytes_of marked parsed amount_by amount_of state_absent state_there above_zero held_by balance_rules bit with_bit entry name_bytes name_of blank_name blank_place blank_transfer blank_book place_record transfer_record place_at transfer_at balances credits_under_way total name_ok is_well_formed open_place set_record set_transfer credits_in bytes_in adds acts doing tests_open tests_act tests_begin tests_finish seen answer next start_answer start_book
+unfolding val limit halves order_of all_digits digits_after decimal amount_if read_of compare_of zeros every sum prior entry_at entries_from lookup sound_as field text_in bytes_of marked parsed amount_by amount_of state_absent state_there above_zero held_by balance_rules bit with_bit entry name_bytes name_of blank_name blank_place blank_transfer blank_book place_record transfer_record place_at transfer_at stocks credits_under_way total name_ok is_well_formed open_place set_record set_transfer credits_in bytes_in adds acts doing tests_open tests_act tests_begin tests_finish seen answer next start_answer start_book
 again_worked = (refl, refl, refl)
 
 -- two transfers overlap: 5 from `N1` to `N2` by number 0, 3 from `N2` to `N1` by number 1. The first is finished, and `N2` spends 4 of the 5; then the
@@ -131,7 +137,7 @@ crossed =
 
 pub crossed_worked : Worked crossed (done ∷ done ∷ done ∷ done ∷ done ∷ done ∷ done ∷ []) (left (account 49 0) (account 50 4) 0 (replicate 8 blank_transfer))
     (shows 49 0 ∷ shows 50 4 ∷ [])
-unfolding val limit halves order_of all_digits digits_after decimal amount_if read_of compare_of zeros every sum prior entry_at entries_from lookup sound_as field text_in bytes_of marked parsed amount_by amount_of state_absent state_there above_zero held_by balance_rules bit with_bit entry name_bytes name_of blank_name blank_place blank_transfer blank_book place_record transfer_record place_at transfer_at balances credits_under_way total name_ok is_well_formed open_place set_record set_transfer credits_in bytes_in adds acts doing tests_open tests_act tests_begin tests_finish seen answer next start_answer start_book
+unfolding val limit halves order_of all_digits digits_after decimal amount_if read_of compare_of zeros every sum prior entry_at entries_from lookup sound_as field text_in bytes_of marked parsed amount_by amount_of state_absent state_there above_zero held_by balance_rules bit with_bit entry name_bytes name_of blank_name blank_place blank_transfer blank_book place_record transfer_record place_at transfer_at stocks credits_under_way total name_ok is_well_formed open_place set_record set_transfer credits_in bytes_in adds acts doing tests_open tests_act tests_begin tests_finish seen answer next start_answer start_book
 crossed_worked = (refl, refl, refl)
 
 -- ---- document 02, request 2. `N1` sends `N2` 3 of its 5 by number 0, and the other 2 by number 1. Its place can't be closed while it holds 2
@@ -150,7 +156,7 @@ pub leaving_worked : Worked leaving
     ∷ done ∷ numbered 30 0 ∷ done ∷ numbered 29 0 ∷ done ∷ done ∷ numbered 6 0 ∷ done ∷ []
     )
     (left (account 51 2) (account 50 3) 0 (replicate 8 blank_transfer)) (shows 51 2 ∷ shows 50 3 ∷ [])
-unfolding val limit halves order_of all_digits digits_after decimal amount_if read_of compare_of zeros every sum any prior entry_at entries_from lookup sound_as field text_in bytes_of marked parsed amount_by amount_of state_absent state_there above_zero held_by balance_rules bit with_bit entry name_bytes name_of blank_name blank_place blank_transfer blank_book place_record transfer_record place_at transfer_at balances credits_under_way total awaited name_ok is_well_formed open_place close_place set_record set_transfer credits_in bytes_in adds acts doing tests_open tests_act tests_begin tests_finish tests_close seen answer next start_answer start_book
+unfolding val limit halves order_of all_digits digits_after decimal amount_if read_of compare_of zeros every sum any prior entry_at entries_from lookup sound_as field text_in bytes_of marked parsed amount_by amount_of state_absent state_there above_zero held_by balance_rules bit with_bit entry name_bytes name_of blank_name blank_place blank_transfer blank_book place_record transfer_record place_at transfer_at stocks credits_under_way total awaited name_ok is_well_formed open_place close_place set_record set_transfer credits_in bytes_in adds acts doing tests_open tests_act tests_begin tests_finish tests_close seen answer next start_answer start_book
 leaving_worked = (refl, refl, refl)
 
 -- `N1` sends all that it holds, and leaves: its place is closed, its record zeros
@@ -162,5 +168,35 @@ abbrev pub one_open : Book
 one_open = set_opened (left blank_place (account 50 5) 0 (replicate 8 blank_transfer)) 2
 
 pub left_alone_worked : Worked left_alone (done ∷ done ∷ done ∷ done ∷ done ∷ []) one_open (none ∷ shows 50 5 ∷ [])
-unfolding val limit halves order_of all_digits digits_after decimal amount_if read_of compare_of zeros every sum any prior entry_at entries_from lookup sound_as field text_in bytes_of marked parsed amount_by amount_of state_absent state_there above_zero held_by balance_rules bit with_bit entry name_bytes name_of blank_name blank_place blank_transfer blank_book place_record transfer_record place_at transfer_at balances credits_under_way total awaited name_ok is_well_formed open_place close_place set_record set_transfer credits_in bytes_in tests_open tests_begin tests_finish tests_close seen answer next start_answer start_book
+unfolding val limit halves order_of all_digits digits_after decimal amount_if read_of compare_of zeros every sum any prior entry_at entries_from lookup sound_as field text_in bytes_of marked parsed amount_by amount_of state_absent state_there above_zero held_by balance_rules bit with_bit entry name_bytes name_of blank_name blank_place blank_transfer blank_book place_record transfer_record place_at transfer_at stocks credits_under_way total awaited name_ok is_well_formed open_place close_place set_record set_transfer credits_in bytes_in tests_open tests_begin tests_finish tests_close seen answer next start_answer start_book
 left_alone_worked = (refl, refl, refl)
+
+-- ---- document 02, request 5. `N1` holds 5 and reserves 3: it holds 2. It sends these to `N2`, and can send no more; a release of 4 is refused (31),
+-- of 1 accepted. So it holds 1 and has 2 reserved, and 2 are under way
+
+abbrev pub reserving : List Step
+reserving =
+    Open 0 (opening 49 53) ∷ Open 1 (opening 50 48) ∷ Act 0 16 (asking 51) ∷ Begin 0 1 0 (asking 50) ∷ Begin 0 1 1 (asking 49) ∷ Act 0 17 (asking 52)
+    ∷ Act 0 17 (asking 49) ∷ []
+
+abbrev pub reserving_left : Book
+reserving_left =
+    left (account_with 49 1 2) (account 50 0) 1 (record { from = 0; to = 1; amount = whole_amount 2 } ∷ replicate 7 blank_transfer)
+
+pub reserving_worked : Worked reserving (done ∷ done ∷ done ∷ done ∷ short 0 1 ∷ numbered 31 0 ∷ done ∷ []) reserving_left (shows_with 49 1 2 ∷ shows 50 0 ∷ [])
+unfolding val limit halves order_of all_digits digits_after decimal amount_if read_of compare_of zeros every sum any prior entry_at entries_from lookup sound_as field text_in bytes_of marked parsed amount_by amount_of state_absent state_there above_zero held_by balance_rules bit with_bit entry name_bytes name_of blank_name blank_place blank_transfer blank_book place_record transfer_record place_at transfer_at stocks credits_under_way total awaited name_ok is_well_formed open_place close_place set_record set_transfer credits_in bytes_in adds acts doing tests_open tests_act tests_begin tests_finish tests_close seen answer next start_answer start_book
+reserving_worked = (refl, refl, refl)
+
+-- `N1` reserves 3 of its 5, and 3 are more than the 2 that it holds (15); it spends these. Its place can't be closed while it has 3 reserved (29). It
+-- releases them, 2 and 1, and has none left (31); spends them, and its place is closed, and opened for `N3`, which has nothing reserved (31)
+
+abbrev pub given_back : List Step
+given_back =
+    Open 0 (opening 49 53) ∷ Open 1 (opening 50 48) ∷ Act 0 16 (asking 51) ∷ Act 0 18 (asking 51) ∷ Act 0 18 (asking 50) ∷ Close 0 ∷ Act 0 17 (asking 50)
+    ∷ Act 0 17 (asking 49) ∷ Act 0 17 (asking 49) ∷ Act 0 18 (asking 51) ∷ Close 0 ∷ Open 0 (opening 51 50) ∷ Act 0 17 (asking 49) ∷ []
+
+pub given_back_worked : Worked given_back
+    (done ∷ done ∷ done ∷ short 2 3 ∷ done ∷ numbered 29 0 ∷ done ∷ done ∷ numbered 31 0 ∷ done ∷ done ∷ done ∷ numbered 31 0 ∷ [])
+    (left (account 51 2) (account 50 0) 0 (replicate 8 blank_transfer)) (shows 51 2 ∷ shows 50 0 ∷ [])
+unfolding val limit halves order_of all_digits digits_after decimal amount_if read_of compare_of zeros every sum any prior entry_at entries_from lookup sound_as field text_in bytes_of marked parsed amount_by amount_of state_absent state_there above_zero held_by balance_rules bit with_bit entry name_bytes name_of blank_name blank_place blank_transfer blank_book place_record transfer_record place_at transfer_at stocks credits_under_way total awaited name_ok is_well_formed open_place close_place set_record set_transfer credits_in bytes_in adds acts doing tests_open tests_act tests_begin tests_finish tests_close seen answer next start_answer start_book
+given_back_worked = (refl, refl, refl)

@@ -36,7 +36,7 @@ unfoldable pub blank_name : Name
 blank_name = record { bytes = zeros 32; len = 0 }
 
 unfoldable pub blank_place : Place
-blank_place = record { subject = blank_name; balance = zero_amount }
+blank_place = record { subject = blank_name; balance = zero_amount; reserved = zero_amount }
 
 unfoldable pub blank_transfer : Transfer
 blank_transfer = record { from = 0; to = 0; amount = zero_amount }
@@ -46,7 +46,7 @@ blank_book = record { unit = blank_name; opened = 0; pending = 0; places = repli
 
 -- what the logic reads past an array's end; no claim turns on it
 abbrev pub no_place : Place
-no_place = record { subject = record { bytes = []; len = 0 }; balance = zero_amount }
+no_place = record { subject = record { bytes = []; len = 0 }; balance = zero_amount; reserved = zero_amount }
 
 abbrev pub no_transfer : Transfer
 no_transfer = record { from = 0; to = 0; amount = zero_amount }
@@ -54,10 +54,13 @@ no_transfer = record { from = 0; to = 0; amount = zero_amount }
 -- ---- setters, one for each field
 
 abbrev pub set_subject : Place → Name → Place
-set_subject x n = record { subject = n; balance = x.balance }
+set_subject x n = record { subject = n; balance = x.balance; reserved = x.reserved }
 
 abbrev pub set_balance : Place → Amount → Place
-set_balance x a = record { subject = x.subject; balance = a }
+set_balance x a = record { subject = x.subject; balance = a; reserved = x.reserved }
+
+abbrev pub set_reserved : Place → Amount → Place
+set_reserved x a = record { subject = x.subject; balance = x.balance; reserved = a }
 
 abbrev pub set_unit : Book → Name → Book
 set_unit b u = record { unit = u; opened = b.opened; pending = b.pending; places = b.places; transfers = b.transfers }
@@ -95,23 +98,27 @@ abbrev pub held_in : Option Place → ℕ
 held_in none = 0
 held_in (some x) = credits x.balance
 
+abbrev pub reserved_in : Option Place → ℕ
+reserved_in none = 0
+reserved_in (some x) = credits x.reserved
+
 abbrev pub carried_by : Option Transfer → ℕ
 carried_by none = 0
 carried_by (some r) = credits r.amount
 
--- what the total counts of a place
+-- what the total counts of a place: request 5, "The total .. now includes reserved credits"
 abbrev pub stock_of : Option Place → ℕ
-stock_of o = held_in o
+stock_of o = held_in o + reserved_in o
 
--- the open places' balances, and the credits under way
-unfoldable pub balances : Book → ℕ
-balances b = sum (λ p. stock_of (place_at b p)) 16
+-- the open places' stocks, and the credits under way
+unfoldable pub stocks : Book → ℕ
+stocks b = sum (λ p. stock_of (place_at b p)) 16
 
 unfoldable pub credits_under_way : Book → ℕ
 credits_under_way b = sum (λ t. carried_by (transfer_at b t)) 8
 
 unfoldable pub total : Book → ℕ
-total b = balances b + credits_under_way b
+total b = stocks b + credits_under_way b
 
 -- ---- document 02, request 2, refusal 30: "if any transfer under way names the place at either end"
 
@@ -137,7 +144,7 @@ place_ok none = true
 place_ok (some x) = name_ok x.subject
 
 abbrev pub scales_ok : Place → Bool
-scales_ok x = eqb x.balance.scale 0
+scales_ok x = eqb x.balance.scale 0 && eqb x.reserved.scale 0
 
 -- both ends are open
 abbrev pub transfer_ok : Book → Option Transfer → Bool

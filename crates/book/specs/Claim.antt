@@ -30,7 +30,9 @@ abbrev pub AllAccepted : Book → List Step → Type 0
 AllAccepted b [] = Unit {0}
 AllAccepted b (s ∷ ss) = (answer b s ≡ Ok tt) × AllAccepted (next b s) ss
 
--- ---- what accepted steps issued, took and left under way
+-- ---- what accepted steps issued, took and left under way. "An accepted open issues its sheet's balance, an accepted 12, 13 or 17 its amount; an
+-- accepted 14, 16, 18 or 19 takes its amount" (document 01), of which document 02, request 5, replaces what is said of 16 and 17: "neither step issues or
+-- takes any more"
 
 abbrev pub issued : List Step → ℕ
 issued [] = 0
@@ -89,9 +91,10 @@ abbrev pub PlainAccepts : List ℕ → Plain → List Step → Type 0
 PlainAccepts u l [] = Unit {0}
 PlainAccepts u l (s ∷ ss) = (plain_answer u l s ≡ Ok tt) × PlainAccepts u (plain_next u l s) ss
 
--- "Compared are the open places, their subjects and balances": nothing where a place is closed
+-- "Compared are the open places, their subjects and balances": nothing where a place is closed. Document 02, request 5: "The rebuilt balances
+-- cover reserved amounts too"
 abbrev pub cell : Place → Holding
-cell x = record { subject = name_bytes x.subject; balance = credits x.balance }
+cell x = record { subject = name_bytes x.subject; balance = credits x.balance; reserved = credits x.reserved }
 
 abbrev pub shown : Option Place → Option Holding
 shown none = none
@@ -108,7 +111,9 @@ EachOnce b order = (t : ℕ) → occurrences t order ≡ bit b.pending t
 
 -- "at its start and after each of its steps": b is then the book, and a are the steps accepted so far
 pub record Sound (b : Book) (a : List Step) : Type 0 where
-  -- "the open places' balances plus the credits under way equal what the accepted steps so far issued less what they took"
+  -- "the open places' balances plus the credits under way equal what the accepted steps so far issued less what they took". "Total is the open
+  -- places' balances plus all under way" (document 01) is replaced by document 02, request 5: "The total, and with it the sum of demand 3, now
+  -- includes reserved credits"
   pub conserved : total b + taken a ≡ issued a
   -- "the transfers under way, those of the book's set, are the ones that an accepted begin began and no later accepted step, here
   -- finish, has ended; each one's credits are its begin's amount" (document 01); a cancel ends one as well
@@ -127,7 +132,7 @@ pub record Settled (b : Book) (l : Plain) (order : List ℕ) : Type 0 where
   pub finished : AllAccepted b (map Finish order)
   -- "and none is left under way"
   pub none_left : (run b (map Finish order)).pending ≡ 0
-  -- "the open places, their subjects and their balances are then exactly those of document 01's plain book"
+  -- "the open places, their subjects and their balances are then exactly those of document 01's plain book", and their reserved amounts
   pub same : (p : ℕ) → p < 16 → cell_at (run b (map Finish order)) p ≡ l p
 
 -- of a start's unit and a list of steps
@@ -142,6 +147,6 @@ pub record Demand3 (u : List ℕ) (steps : List Step) : Type 0 where
       → Settled (run (start_book u) steps) (plain_run u empty_plain (rebuilt (accepted_of (start_book u) steps))) order
 
 -- "For every list of these steps (open, act, begin, finish, refused ones among them) from a fresh book, however transfers overlap", with
--- cancels and closes among them: "A fresh book is one an accepted start gave" (document 01)
+-- cancels, closes, reserves and releases among them: "A fresh book is one an accepted start gave" (document 01)
 abbrev pub Claim : Type 0
 Claim = (u : List ℕ) → start_answer u ≡ Ok tt → (steps : List Step) → Demand3 u steps

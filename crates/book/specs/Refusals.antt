@@ -1,8 +1,8 @@
--- Document 01, the refusal table, and document 02, request 2: the number, the detail and the two amounts of each answer of the book.
+-- Document 01, the refusal table, and document 02, requests 2 and 5: the number, the detail and the two amounts of each answer of the book.
 use Rattle.registry.specs.Refusals as profile
 use Rattle.registry.specs.declared.error.Answer.{Answer}
 use Rattle.book.specs.declared.error.BookError.{BookError}
-use Rattle.book.specs.declared.error.BookError.TheVariants.{Profile, UnderWay, OffTheBook, Idle, Itself, TooMuch, OtherUnit, LongName, BadBook, NotEmpty, Awaited}
+use Rattle.book.specs.declared.error.BookError.TheVariants.{Profile, UnderWay, OffTheBook, Idle, Itself, TooMuch, OtherUnit, LongName, BadBook, NotEmpty, Awaited, NotReserved}
 use Rattle.std.specs.Prelude.{Result, Ok, Err}
 
 -- what a step says
@@ -22,6 +22,7 @@ book_refusal_of (LongName name) = profile.numbered 27 name
 book_refusal_of BadBook = profile.numbered 28 0
 book_refusal_of NotEmpty = profile.numbered 29 0
 book_refusal_of Awaited = profile.numbered 30 0
+book_refusal_of NotReserved = profile.numbered 31 0
 
 -- 0 is accepted; a step writes no sheet, so its length is 0
 abbrev pub book_answer_of : BookOutcome → Answer

@@ -1,5 +1,5 @@
--- Document 01, section "Book", and document 02, requests 1 and 2: the steps, which carry their sheets as bytes. The tests in their order, and what an
--- accepted step does.
+-- Document 01, section "Book", and document 02, requests 1, 2 and 5: the steps, which carry their sheets as bytes. The tests in their order, and
+-- what an accepted step does.
 use Rattle.std.specs.Prelude.{Bool, true, false, not, cond, ◌&&◌, ◌||◌, List, [], ◌∷◌, ℕ, ◌+◌, ◌-◌, eqb, leb, ltb, length, Ok, Err}
 use Rattle.std.proofs.Math.Option.{Option, some, none}
 use Rattle.amount.specs.Numbers.{limit}
@@ -13,11 +13,11 @@ use Rattle.registry.specs.Refusals.{Outcome}
 use Rattle.registry.specs.declared.error.ProfileError.TheVariants.{UnknownOperation, Born, Unborn, Empty}
 use Rattle.profiles.specs.Balance.{balance_rules}
 use Rattle.book.specs.Places.{place_view, closed_view, put_field}
-use Rattle.book.specs.Book.{credits, whole_amount, name_bytes, name_of, blank_place, blank_book, blank_transfer, place_record, transfer_record, place_at, transfer_at, held_in, total, awaited, is_some, is_well_formed, set_subject, set_balance, set_unit, open_place, close_place, set_record, set_credits, set_transfer}
+use Rattle.book.specs.Book.{credits, whole_amount, name_bytes, name_of, blank_place, blank_book, blank_transfer, place_record, transfer_record, place_at, transfer_at, held_in, reserved_in, total, awaited, is_some, is_well_formed, set_subject, set_balance, set_reserved, set_unit, open_place, close_place, set_record, set_credits, set_transfer}
 use Rattle.book.specs.declared.Place.{Place}
 use Rattle.book.specs.declared.Book.{Book}
 use Rattle.book.specs.declared.error.BookError.{BookError}
-use Rattle.book.specs.declared.error.BookError.TheVariants.{Profile, UnderWay, OffTheBook, Idle, Itself, TooMuch, OtherUnit, LongName, BadBook, NotEmpty, Awaited}
+use Rattle.book.specs.declared.error.BookError.TheVariants.{Profile, UnderWay, OffTheBook, Idle, Itself, TooMuch, OtherUnit, LongName, BadBook, NotEmpty, Awaited, NotReserved}
 use Rattle.book.specs.Refusals.{BookOutcome}
 
 pub data Step : Type 0 where
@@ -45,13 +45,15 @@ adds o = among o (12 ∷ 13 ∷ 17 ∷ [])
 unfoldable pub acts : ℕ → Bool
 acts o = among o (12 ∷ 13 ∷ 14 ∷ 16 ∷ 17 ∷ 18 ∷ 19 ∷ [])
 
--- what they do: those that add issue, the rest take
+-- what one of them does. Request 5: "reserve moves credits there, release moves them back"; of the others those that add issue, the rest take
 pub data Doing : Type 0 where
   Issuing : Doing
   Taking : Doing
+  Reserving : Doing
+  Releasing : Doing
 
 unfoldable pub doing : ℕ → Doing
-doing o = cond (adds o) Issuing Taking
+doing o = cond (eqb o 16) Reserving (cond (eqb o 17) Releasing (cond (adds o) Issuing Taking))
 
 -- the balance after an act of v
 abbrev pub changed : ℕ → ℕ → ℕ → ℕ
@@ -79,12 +81,13 @@ same_bytes [] (y ∷ ys) = false
 same_bytes (x ∷ xs) [] = false
 same_bytes (x ∷ xs) (y ∷ ys) = eqb x y && same_bytes xs ys
 
--- what the tests go by, of a book or of the plain book: the unit, the places as balance states and what they hold, which transfer numbers
--- are in use, which places the transfers under way name, and the total
+-- what the tests go by, of a book or of the plain book: the unit, the places as balance states, what they hold and what they have reserved,
+-- which transfer numbers are in use, which places the transfers under way name, and the total
 pub record Seen : Type 0 where
   pub unit : List ℕ
   pub place : ℕ → Sight
   pub held : ℕ → ℕ
+  pub reserved : ℕ → ℕ
   pub busy : ℕ → Bool
   pub awaited : ℕ → Bool
   pub total : ℕ
@@ -113,12 +116,15 @@ tests_open s p i =
     ∷ refused_if (leb limit (s.total + credits_in balance i)) TooMuch
     ∷ []
 
--- after the check of an act of v at place p: 25, which only what issues can meet
+-- after the check of an act of v at place p: 25, which only what issues can meet. Request 5: "31 "not reserved", in release after its check,
+-- if the amount exceeds what the place has reserved"
 abbrev pub after_check : Doing → Seen → ℕ → ℕ → BookOutcome
 after_check Issuing s p v = refused_if (leb limit (s.total + v)) TooMuch
 after_check Taking s p v = Ok tt
+after_check Reserving s p v = Ok tt
+after_check Releasing s p v = refused_if (ltb (s.reserved p) v) NotReserved
 
--- act: 22, 6, 2, 4 unless 12, 13, 14, 16, 17, 18, 19; check; 25
+-- act: 22, 6, 2, 4 unless 12, 13, 14, 16, 17, 18, 19; check; 25 or 31
 unfoldable pub tests_act : Seen → ℕ → ℕ → List ℕ → List BookOutcome
 tests_act s p o i =
     refused_if (leb 16 p) OffTheBook
@@ -145,12 +151,12 @@ unfoldable pub tests_finish : Seen → ℕ → List BookOutcome
 tests_finish s t = refused_if (leb 8 t) OffTheBook ∷ refused_if (not (s.busy t)) Idle ∷ []
 
 -- close. Request 2: "after 22 and 6, 29 "not empty" if the balance isn't zero; then 30 "awaited" if any transfer under way names the place
--- at either end"
+-- at either end". Request 5: "Close counts a reserved amount as not empty"
 unfoldable pub tests_close : Seen → ℕ → List BookOutcome
 tests_close s p =
     refused_if (leb 16 p) OffTheBook
     ∷ refused_if (not (s.place p).there) (Profile Unborn)
-    ∷ refused_if (not (eqb (s.held p) 0)) NotEmpty
+    ∷ refused_if (not (eqb (s.held p + s.reserved p) 0)) NotEmpty
     ∷ refused_if (s.awaited p) Awaited
     ∷ []
 
@@ -176,6 +182,7 @@ seen b =
       unit = name_bytes b.unit;
       place = λ p. view_of (name_bytes b.unit) (place_at b p);
       held = λ p. held_in (place_at b p);
+      reserved = λ p. reserved_in (place_at b p);
       busy = λ t. is_some (transfer_at b t);
       awaited = λ p. awaited b p;
       total = total b;
@@ -189,9 +196,16 @@ answer b s = first_refusal (refused_if (not (is_well_formed b)) BadBook ∷ test
 abbrev pub held_at : Book → ℕ → ℕ
 held_at b p = credits (place_record b p).balance
 
+-- what is reserved after an act of v: reserve adds the amount, release subtracts it, and no other alters it
+abbrev pub set_aside : Doing → ℕ → Place → Place
+set_aside Issuing v x = x
+set_aside Taking v x = x
+set_aside Reserving v x = set_reserved x (whole_amount (credits x.reserved + v))
+set_aside Releasing v x = set_reserved x (whole_amount (credits x.reserved - v))
+
 -- a place after an act of v
 abbrev pub act_on : ℕ → ℕ → Place → Place
-act_on o v x = set_balance x (whole_amount (changed o (credits x.balance) v))
+act_on o v x = set_aside (doing o) v (set_balance x (whole_amount (changed o (credits x.balance) v)))
 
 -- begin leaves this at the source, and finish makes this of what the destination holds
 abbrev pub lessened : ℕ → ℕ → ℕ
@@ -205,7 +219,8 @@ abbrev pub landed : Book → ℕ → ℕ → Book
 landed b t p = set_transfer (set_credits b p (raised (held_at b p) (credits (transfer_record b t).amount))) t 0 blank_transfer
 
 -- THE EFFECT of an accepted step. Request 1: "cancel a transfer under way and see its credits back at the source"; it "frees the number, its
--- record zeros, as finish does". Request 2: close "makes its record zeros, and the place may be opened again"
+-- record zeros, as finish does". Request 2: close "makes its record zeros, and the place may be opened again". Request 5: a reserved amount is "set to
+-- zero by open; reserve moves credits there, release moves them back"
 abbrev pub effect : Book → Step → Book
 effect b (Open p i) =
     open_place b p (set_balance (set_subject blank_place (name_of (bytes_in subject i))) (whole_amount (credits_in balance i)))
@@ -234,7 +249,8 @@ start_answer u =
 unfoldable pub start_book : List ℕ → Book
 start_book u = after (start_answer u) (set_unit blank_book (name_of u)) blank_book
 
--- ---- what an accepted step issues or takes, by its sheet
+-- ---- what an accepted step issues or takes, by its sheet. Request 5, of reserve and release: "neither step issues or takes any more, which
+-- replaces document 01's sentences on both"
 
 pub data Flow : Type 0 where
   Issues : (credits : ℕ) → Flow
@@ -244,6 +260,8 @@ pub data Flow : Type 0 where
 abbrev pub act_flow : Doing → ℕ → Flow
 act_flow Issuing n = Issues n
 act_flow Taking n = Takes n
+act_flow Reserving n = Neither
+act_flow Releasing n = Neither
 
 abbrev pub flow : Step → Flow
 flow (Open p i) = Issues (credits_in balance i)

@@ -26,6 +26,8 @@ pub const NOT_EMPTY: u8 = 29;
 
 pub const AWAITED: u8 = 30;
 
+pub const NOT_RESERVED: u8 = 31;
+
 #[derive(Clone, Copy)]
 pub enum BookError {
     Profile(ProfileError),
@@ -39,6 +41,7 @@ pub enum BookError {
     BadBook,
     NotEmpty,
     Awaited,
+    NotReserved,
 }
 
 impl From<ProfileError> for BookError {
@@ -66,6 +69,7 @@ impl From<BookError> for Answer {
             BookError::BadBook => Answer::numbered(BAD_BOOK, 0),
             BookError::NotEmpty => Answer::numbered(NOT_EMPTY, 0),
             BookError::Awaited => Answer::numbered(AWAITED, 0),
+            BookError::NotReserved => Answer::numbered(NOT_RESERVED, 0),
         }
     }
 }

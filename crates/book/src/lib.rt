@@ -39,6 +39,7 @@ impl Name {
 pub struct Place {
     pub subject: Name,
     pub balance: Amount,
+    pub reserved: Amount,
 }
 
 // Credits that have left `from` and have not reached `to`.

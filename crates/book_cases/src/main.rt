@@ -5,7 +5,7 @@
 ghost use Rattle.std.specs.Prelude.{◌<◌, IfSome, length};
 
 use amount::{Amount, Uint128};
-use book::error::{AWAITED, BAD_BOOK};
+use book::error::{BAD_BOOK, NOT_RESERVED};
 use book::{Book, Name, Place, TRANSFERS, Transfer};
 use registry::error::{Answer, INSUFFICIENT_QUANTITY};
 use session::{Run, running};
@@ -15,10 +15,10 @@ use steps::Step;
 use tally::{Judge, Row, Tally};
 
 // The list is read up to here.
-const READ_BYTES: u64 = 1572864;
+const READ_BYTES: u64 = 1703936;
 
 // An answer's number is 0 or a refusal's.
-const NUMBERS: usize = AWAITED as usize + 1;
+const NUMBERS: usize = NOT_RESERVED as usize + 1;
 
 // The kinds of steps, bytes as in a session.
 const OPEN: u8 = 1;
@@ -60,7 +60,7 @@ fn kind_of(byte: u8) -> Option<Kind> {
 fn answer_bytes(number: u8) -> Option<usize> {
     match number {
         INSUFFICIENT_QUANTITY => Some(34),
-        0..=AWAITED => Some(2),
+        0..=NOT_RESERVED => Some(2),
         _ => None,
     }
 }
@@ -147,6 +147,8 @@ fn alter_at(place: &mut Place, transfer: &mut Transfer, a: u8, t: u8) {
         8 => transfer.from = t,
         9 => transfer.to = t,
         10 => transfer.amount.scale = t,
+        12 => place.reserved.scale = t,
+        13 => place.reserved.mantissa = high(t),
         _ => transfer.amount.mantissa = high(t),
     }
 }
@@ -185,7 +187,8 @@ fn past_name(e: &[u8], name: Name) -> Option<&[u8]> {
 }
 
 fn past_place(e: &[u8], x: Place) -> Option<&[u8]> {
-    past_number(past_name(e, x.subject)?, x.balance.mantissa)
+    let e = past_number(past_name(e, x.subject)?, x.balance.mantissa)?;
+    past_number(e, x.reserved.mantissa)
 }
 
 fn past_transfer(e: &[u8], r: Transfer) -> Option<&[u8]> {

@@ -26,9 +26,9 @@ pub fn credits_book_start(unit: &[u8]) -> Started
 
 // The bytes of a book, for C to compare with its own.
 pub fn credits_book_size() -> u32
-    ensures { result ≡ 1320 }
+    ensures { result ≡ 1704 }
 {
-    1320
+    1704
 }
 
 pub fn credits_book_open(book: &mut Book, place: u8, sheet: &[u8]) -> Answer

@@ -16,7 +16,7 @@ pub extern "C" fn credits_book_start(unit: &[u8]) -> Started
 
 #[unsafe(no_mangle)]
 pub extern "C" fn credits_book_size() -> u32
-    ensures { result ≡ 1320 }
+    ensures { result ≡ 1704 }
 {
     credits::book_calls::credits_book_size()
 }

@@ -17,7 +17,7 @@ pub extern "C" fn credits_session_run(session: &[u8]) -> Run
 pub extern "C" fn credits_session_listing(session: &[u8], out: &mut [u8]) -> u16
     ensures { (result ≡ length_in (listing_of session.now) out.old)
         × (out.new ≡ put_into (listing_of session.now) out.old)
-        × (length (listing_of session.now) ≤ 4096) }
+        × (length (listing_of session.now) ≤ 4608) }
 {
     credits::session_calls::credits_session_listing(session, out)
 }

@@ -13,7 +13,7 @@ const READ_BYTES: u64 = 65536;
 
 // Prints one session's listing.
 fn print(out: &mut impl Write, session: &[u8]) -> io::Result<()> {
-    let mut listing = [0u8; 4096];
+    let mut listing = [0u8; 4608];
     let len = credits::session_calls::credits_session_listing(session, &mut listing) as usize;
     out.write_all(&listing[..len])
 }

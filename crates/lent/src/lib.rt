@@ -53,6 +53,7 @@ pub fn turn_in(
     let place = &mut book.places[step.place(transfer.from, transfer.to) as usize];
     let was = View {
         held: place.balance.mantissa,
+        reserved: place.reserved.mantissa,
         carried: transfer.amount.mantissa,
         total,
         opened: book.opened,
@@ -64,6 +65,7 @@ pub fn turn_in(
     };
     let left = steps::take_turn(step, was, book.unit, sheet)?;
     place.balance.mantissa = left.held;
+    place.reserved.mantissa = left.reserved;
     place.subject = step.subject(place.subject, sheet);
     transfer.from = left.from;
     transfer.to = left.to;

@@ -12,7 +12,7 @@ fn main(rt: HostRuntime) -> io::Result<()> {
     rt.reader()
         .take(READ_BYTES as u64)
         .read_to_end(&mut session)?;
-    let mut out = [0u8; 4096];
+    let mut out = [0u8; 4608];
     let len = report::listing(&session, &mut out) as usize;
     io::writer(&rt).write_all(&out[..len])
 }

@@ -1,6 +1,6 @@
 -- The theorems on the listing that docs/PROOFS.md names. Document 01: "open places, lowest first, with balance; open count, count under way,
--- total". `open_places_printed`: the place lines are the open places, each once, lowest first, each with its own balance, and the printed
--- open count is how many they are. `under_way_counted`: the printed count under way is how many transfers are under way.
+-- total". `open_places_printed`: the place lines are the open places, each once, lowest first, each with its own balance and reserved amount, and
+-- the printed open count is how many they are. `under_way_counted`: the printed count under way is how many transfers are under way.
 -- `printed_total`: the printed total is what the run's accepted steps issued less what they took.
 use mathlib.Core.Path.{◌≡◌}
 use mathlib.Core.Bool.{true}

@@ -1,4 +1,5 @@
--- Document 01, section "Session and listing": what the session program prints, byte by byte. Every line ends in one line feed.
+-- Document 01, section "Session and listing", and document 02, request 5: what the session program prints, byte by byte. Every line ends in one
+-- line feed.
 use Rattle.std.specs.Prelude.{cond, List, [], ◌∷◌, ◌++◌, ℕ, zero, suc, leb, length}
 use Rattle.std.proofs.Math.Option.{Option, some, none}
 use Rattle.amount.specs.Canonical.{whole_text, canonical_text}
@@ -49,10 +50,10 @@ unfoldable pub step_lines : ℕ → List StepAnswer → List ℕ
 step_lines k [] = []
 step_lines k (a ∷ l) = step_line k a ++ step_lines (suc k) l
 
--- an open place and its balance; no line where it is closed
+-- an open place and its balance; no line where it is closed. Request 5: "Place lines become `place P B R`"
 unfoldable pub place_line : ℕ → Option Place → List ℕ
 place_line p none = []
-place_line p (some x) = place_word ++ whole_text p ++ space ++ canonical_text x.balance ++ line_feed
+place_line p (some x) = place_word ++ whole_text p ++ space ++ canonical_text x.balance ++ space ++ canonical_text x.reserved ++ line_feed
 
 -- of the first n places, lowest first
 unfoldable pub place_lines : Book → ℕ → List ℕ

@@ -16,10 +16,12 @@ abbrev pub Rising : ℕ → List ℕ → Type 0
 Rising k [] = Unit
 Rising k (p ∷ l) = (k ≤ p) × Rising (suc p) l
 
--- `place`, the place and its balance, one line each
+-- `place`, the place, its balance and what it has reserved, one line each
 unfoldable pub balance_lines : Book → List ℕ → List ℕ
 balance_lines b [] = []
-balance_lines b (p ∷ l) = place_word ++ whole_text p ++ space ++ canonical_text (place_record b p).balance ++ line_feed ++ balance_lines b l
+balance_lines b (p ∷ l) =
+    place_word ++ whole_text p ++ space ++ canonical_text (place_record b p).balance ++ space ++ canonical_text (place_record b p).reserved ++ line_feed
+    ++ balance_lines b l
 
 -- l has the members of a set below n: every one once, no other, lowest first, and as many as are counted
 pub record Members (o n : ℕ) (l : List ℕ) : Type 0 where

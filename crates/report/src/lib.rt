@@ -10,11 +10,11 @@ use session::running;
 mod lines;
 mod page;
 
-// The listing of a session, and its length; 0, as C gets it, and no byte written where the buffer is too short. 4,096 bytes are always enough.
+// The listing of a session, and its length; 0, as C gets it, and no byte written where the buffer is too short. 4,608 bytes are always enough.
 pub fn listing(session: &[u8], out: &mut [u8]) -> u16
     ensures { (result ≡ length_in (listing_of session.now) out.old)
         × (out.new ≡ put_into (listing_of session.now) out.old)
-        × (length (listing_of session.now) ≤ 4096) }
+        × (length (listing_of session.now) ≤ 4608) }
 {
     let run = running::run(session);
     // measured first, by writing it nowhere

@@ -16,7 +16,7 @@ pub(crate) fn put_listing(out: &mut [u8], run: &Run) -> usize
     requires { run.now.number ≡ 0 → (run.now.count ≤ 255) × (is_well_formed run.now.book ≡ true) }
     ensures bytes { out.new ≡ sets out.old 0 (run_text run.now) }
     ensures behind { result ≡ length (run_text run.now) }
-    ensures within { result ≤ 4096 }
+    ensures within { result ≤ 4608 }
 {
     let mut page = Page { out, at: 0 };
     if run.number != 0 {
@@ -56,24 +56,26 @@ impl Page<'_> {
         }
     }
 
-    // An open place and its balance.
+    // An open place, its balance and what it has reserved.
     fn put_place(&mut self, p: u8, x: &Place)
-        requires room { HasRoom self.old 50 }
-        requires whole { x.now.balance.scale ≡ 0 }
-        ensures { Wrote 50 self.old (place_line p (some x.now)) self.new }
+        requires room { HasRoom self.old 90 }
+        requires whole { (x.now.balance.scale ≡ 0) × (x.now.reserved.scale ≡ 0) }
+        ensures { Wrote 90 self.old (place_line p (some x.now)) self.new }
     {
         self.put(b"place ");
         self.put_number(u16::from(p));
         self.put(b" ");
         self.put_amount(x.balance);
+        self.put(b" ");
+        self.put_amount(x.reserved);
         self.put(b"\n");
     }
 
     // The open places, lowest first.
     fn put_places(&mut self, book: &Book)
-        requires room { HasRoom self.old 800 }
+        requires room { HasRoom self.old 1440 }
         requires whole { is_well_formed book.now ≡ true }
-        ensures { Wrote 800 self.old (place_lines book.now 16) self.new }
+        ensures { Wrote 1440 self.old (place_lines book.now 16) self.new }
     {
         for (p, place) in book.places.iter().enumerate() {
             let p = p as u8;

@@ -20,6 +20,7 @@ use Rattle.audit.specs.Totals.{total_of}
 use Rattle.steps.proofs.Turned.{next_kept}
 use Rattle.session.specs.Session.{unit_of, step_at, good, brief, Stand, stand_after, answers_from, no_answer, filled, run_from, start_of}
 use Rattle.session.specs.declared.StepAnswer.{StepAnswer}
+use Rattle.session.specs.declared.Run.{Run}
 use Rattle.session.proofs.Walking.{good_start}
 
 -- after j steps from entry k on, begun at x: book and answers are theirs, the answers filled up with zeros, and n is the book's total
@@ -69,14 +70,14 @@ module _ (s : List ℕ) (x : Stand) (k : ℕ) where
     ran_refused e nay {c} c-is {a} a-is =
         ran_by a (a-is ∙ ap (λ o. brief (book_answer_of o)) nay) c-is (r.total ∙ ap total_of (next_kept b z e nay ∙ sym c-is)) (answer-set a)
 
-  pub ran_all : {b : Book} {n : Option Uint128} {l : List StepAnswer} {j : ℕ} → Ran s x k b n l j → length (answers_from s x k j) ≡ j → (m : ℕ) → j ≡ m
-      → record { number = 0; count = m; steps = l; book = b } ≡ run_from s x k m
+  pub ran_all : (r : Run) {n : Option Uint128} {j : ℕ} → Ran s x k r.book n r.steps j → length (answers_from s x k j) ≡ j → (m : ℕ) → j ≡ m
+      → r.number ≡ 0 → r.count ≡ m → r ≡ run_from s x k m
   unfolding run_from filled
-  ran_all {b} {n} {l} {j} r len m e =
+  ran_all r ran len m e no-number its-count =
       let f : length (answers_from s x k m) ≡ m = rw e at len in
-      let l-is : l ≡ answers_from s x k m ++ replicate (255 - m) no_answer = rw e at r.answers in
-      let b-is : b ≡ (stand_after s x k m).book = rw e at r.book in
-      rw (f, l-is, b-is)
+      let l-is : r.steps ≡ answers_from s x k m ++ replicate (255 - m) no_answer = rw e at ran.answers in
+      let b-is : r.book ≡ (stand_after s x k m).book = rw e at ran.book in
+      (λ i. record { number = no-number i; count = its-count i; steps = r.steps; book = r.book }) ∙ rw (f, l-is, b-is)
 
 -- ---- a fresh book passes 28, and its total is 0
 

@@ -26,11 +26,15 @@ impl From<BookError> for StepAnswer {
     }
 }
 
-// The run, as a call.
+// The run, as a call. A `Run` is made once and filled in place: each function that returns one keeps it on its stack and copies it out.
 pub fn run(s: &[u8]) -> Run
     ensures { result ≡ run_of s.now }
 {
-    if is_good(s) { do_steps(s) } else { bad_run() }
+    let mut run = bad_run();
+    if is_good(s) {
+        do_steps(s, &mut run);
+    }
+    run
 }
 
 // The body of entry one.
@@ -59,29 +63,24 @@ fn bad_run() -> Run
     }
 }
 
-// Each step on the book as the one before left it. A fresh book has a total of 0, and the total moves with the book.
-fn do_steps(s: &[u8]) -> Run
-    requires { good s.now ≡ true }
-    ensures { result ≡ good_run s.now }
+// Each step on the book as the one before left it; the answers start as zeros. A fresh book has a total of 0, and the total moves with the book.
+fn do_steps(s: &[u8], run: &mut Run)
+    requires sound { good s.now ≡ true }
+    requires blank { run.old ≡ bad_run }
+    ensures { run.new ≡ good_run s.now }
 {
-    let count = sheet::u16_at(s, 0) - 1;
-    let mut book = steps::start_book(unit(s));
+    run.number = 0;
+    run.count = sheet::u16_at(s, 0) - 1;
+    run.book = steps::start_book(unit(s));
     let mut total = Some(Uint128::ZERO);
-    let mut answers = [NO_ANSWER; MAX_STEPS];
     // by index: a proof knows nothing of what an adapter of `iter_mut` writes
-    for j in 0..count as usize {
+    for j in 0..run.count as usize {
         let l = layout::line_at(s, 1 + j);
         // every later entry of a good session is a step
         let step = layout::step_of(l).unwrap();
-        match lent::turn_in(&mut book, total, step, layout::body(s, l)) {
+        match lent::turn_in(&mut run.book, total, step, layout::body(s, l)) {
             Ok(after) => total = after,
-            Err(e) => answers[j] = StepAnswer::from(e),
+            Err(e) => run.steps[j] = StepAnswer::from(e),
         }
-    }
-    Run {
-        number: 0,
-        count,
-        steps: answers,
-        book,
     }
 }

@@ -1,9 +1,10 @@
 -- The balance profile's check at an open place of the book, test by test, as the code goes through it: who authorized it, the amount, 14, 15.
-use mathlib.Core.Path.{◌≡◌, sym, ap, ◌∙◌}
+use mathlib.Core.Path.{◌≡◌, refl, sym, ap, ◌∙◌}
 use mathlib.Core.Logic.{◌≢◌}
 use mathlib.Core.Bool.{Bool, true, false, cond}
 use mathlib.Core.List.{List, [], ◌∷◌}
 use Prim.Native.Nat.{ℕ, ◌<◌, ◌≤◌}
+use native.Mathlib.Omega.{arith}
 use lib.ListN.{length}
 use borrow.Author.Tests.{eq-eqb}
 use Rattle.amount.specs.Numbers.{halves}
@@ -19,15 +20,17 @@ use Rattle.profiles.specs.Balance.{balance_rules, debited}
 use Rattle.book.specs.Sets.{has}
 use Rattle.book.specs.Places.{place_view, put_field}
 use Rattle.book.specs.Book.{credits, whole_amount, name_bytes, place_record}
-use Rattle.book.specs.Steps.{credits_in, adds, acts, said, check_at, sent_to, seen}
+use Rattle.book.specs.Steps.{credits_in, adds, acts, Doing, Issuing, Taking, Reserving, Releasing, doing, said, check_at, sent_to, seen}
 use Rattle.book.specs.declared.Book.{Book}
 use Rattle.book.specs.declared.error.BookError.TheVariants.{Profile}
 use Rattle.book.proofs.Accepted.{fact_held, held_short}
 use Rattle.book.proofs.Asking.{begin_debits}
 use Rattle.book.proofs.Effects.{asked_whole}
-use Rattle.steps.specs.Turn.{authorized, authorizing}
+use Rattle.steps.specs.Turn.{in_code, doing_of, authorized, authorizing}
+use Rattle.steps.specs.declared.act.Doing.{Doing as CodeDoing}
+use Rattle.steps.specs.declared.act.Doing.TheVariants as Does
 use Rattle.steps.proofs.Tested.{Here, place_open, check_at_lem, create_at}
-use Rattle.std.specs.Prelude.{Ok, Err}
+use Rattle.std.specs.Prelude.{Some, None, Ok, Err}
 
 -- ---- what a sheet asks
 
@@ -41,6 +44,40 @@ module _ (name : ℕ) (i : List ℕ) (a : Amount) (h : amount_in name (field i n
 
   pub asks_number : a.mantissa ≡ halves (credits_in name i)
   asks_number = ap (λ (z : Amount). z.mantissa) is_whole
+
+-- ---- what an operation of act does, by what the code found
+
+pub doing_found : (o : ℕ) {d : CodeDoing} → doing_of o ≡ Some d → (acts o ≡ true) × (d ≡ in_code (doing o))
+unfolding doing_of
+doing_found o {d} h = go (acts o) refl
+  where
+    go : (t : Bool) → acts o ≡ t → (acts o ≡ true) × (d ≡ in_code (doing o))
+    go true e = let k : Some (in_code (doing o)) ≡ Some d = rw e at h in (e, cc)
+    go false e = let k : None ≡ Some d = rw e at h in let z : ◌≡◌ {A = ℕ} 0 1 = cc in absurd (omega arith)
+
+pub doing_unfound : (o : ℕ) → doing_of o ≡ None → acts o ≡ false
+unfolding doing_of
+doing_unfound o h = go (acts o) refl
+  where
+    go : (t : Bool) → acts o ≡ t → acts o ≡ false
+    go true e = let k : Some (in_code (doing o)) ≡ None = rw e at h in let z : ◌≡◌ {A = ℕ} 0 1 = cc in absurd (omega arith)
+    go false e = e
+
+abbrev out_of_code : CodeDoing → Doing
+out_of_code Does.Issuing = Issuing
+out_of_code Does.Taking = Taking
+out_of_code Does.Reserving = Reserving
+out_of_code Does.Releasing = Releasing
+
+and_back : (k : Doing) → out_of_code (in_code k) ≡ k
+and_back Issuing = refl
+and_back Taking = refl
+and_back Reserving = refl
+and_back Releasing = refl
+
+-- the arm that was taken says what the operation does
+pub does_so : (o : ℕ) (k : Doing) {d : CodeDoing} → d ≡ in_code (doing o) → d ≡ in_code k → doing o ≡ k
+does_so o k e f = sym (and_back (doing o)) ∙ ap out_of_code (sym e ∙ f) ∙ and_back k
 
 -- ---- the check
 

@@ -35,6 +35,7 @@ abbrev pub seen_at : Book → (k i : ℕ) → Option Uint128 → (m : ℕ) → B
 seen_at b k i n m a =
     record {
       held = (place_record b i).balance.mantissa;
+      reserved = (place_record b i).reserved.mantissa;
       carried = (transfer_record b k).amount.mantissa;
       total = n;
       opened = b.opened;
@@ -54,6 +55,7 @@ module _ (b : Book) (s : Step) {k i : ℕ} (at-k : k ≡ transfer_of s) (at_i : 
   shows_at at_g n m a m-is n-is a-is =
       record {
         held = ap (λ (p : ℕ). (place_record b p).balance.mantissa) at_spot;
+        reserved = ap (λ (p : ℕ). (place_record b p).reserved.mantissa) at_spot;
         carried = ap (λ (p : ℕ). (transfer_record b p).amount.mantissa) at-k;
         opened = refl;
         pending = refl;

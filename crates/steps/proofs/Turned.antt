@@ -2,26 +2,22 @@
 use mathlib.Core.Path.{◌≡◌, refl, sym, ap, subst, ◌∙◌}
 use mathlib.Core.Bool.{Bool, true, false}
 use mathlib.Core.List.{List, [], ◌∷◌}
-use Prim.Native.Nat.{ℕ, zero, suc, ◌+◌, ◌-◌, ◌%◌, ◌<◌, ◌≤◌}
+use Prim.Native.Nat.{ℕ, zero, suc, ◌+◌, ◌%◌, ◌<◌}
 use native.Mathlib.Nat.{mod-eq_of_lt}
 use native.Mathlib.Omega.{arith}
 use lib.ListN.{get_or, set}
-use Rattle.amount.specs.Numbers.{val, limit, halves}
-use Rattle.amount.specs.Helpers.{checked, checked_less}
-use Rattle.amount.proofs.Halves.{checked_is, checked_none, difference_is, difference_none}
+use Rattle.amount.specs.Numbers.{halves}
 use Rattle.audit.specs.Totals.{total_of}
 use Rattle.amount.specs.declared.uint128.Uint128.{Uint128}
-use Rattle.registry.specs.declared.error.ProfileError.TheVariants.{InsufficientQuantity}
 use Rattle.book.specs.Book.{no_place, no_transfer, place_record, transfer_record, total, is_well_formed}
 use Rattle.book.specs.Steps.{Step, answer, effect, next, issues, takes}
 use Rattle.book.specs.declared.Name.{Name}
 use Rattle.book.specs.declared.Transfer.{Transfer}
 use Rattle.book.specs.declared.Book.{Book}
 use Rattle.book.specs.declared.error.BookError.{BookError}
-use Rattle.book.specs.declared.error.BookError.TheVariants.{Profile, TooMuch}
 use Rattle.book.proofs.Formed.{formed}
 use Rattle.steps.proofs.Looks.{transfer_low}
-use Rattle.steps.specs.Turn.{with_sheet, transfer_of, spot, Shows, stored_at, stored, whole_of, taken_of, Turned}
+use Rattle.steps.specs.Turn.{with_sheet, transfer_of, spot, Shows, stored_at, stored, whole_of, Turned}
 use Rattle.steps.specs.declared.step.Step.{Step as Kind}
 use Rattle.steps.specs.declared.step.View.{View}
 use Rattle.std.specs.Prelude.{Option, Some, None, ok_or, Result, Ok, Err}
@@ -60,6 +56,11 @@ held_whole {b} {s} {x} v w p e low =
     let h : x.held ≡ (place_record b p).balance.mantissa = v.held ∙ rw (e, mod-eq_of_lt low) in
     rw (h, ← ((formed b w).whole_places p low).balance)
 
+-- and what it has reserved, by its mantissa
+pub reserved_whole : (b : Book) → is_well_formed b ≡ true → (p : ℕ) → p < 16 → {r : Uint128} → r ≡ (place_record b p).reserved.mantissa
+    → whole_of r ≡ (place_record b p).reserved
+reserved_whole b w p low {r} h = rw (h, ← ((formed b w).whole_places p low).reserved)
+
 -- ---- the total that a step is shown
 
 module _ {b : Book} {s : Kind} {x : View} (v : Shows b s x) where
@@ -95,16 +96,6 @@ pub none_told : {A E : Type 0} (o : Option A) (e f : E) → ok_or o e ≡ Err f 
 none_told (Some y) e f h = let z : ◌≡◌ {A = ℕ} 0 1 = cc in absurd (omega arith)
 none_told None e f h = (refl, cc)
 
--- 15, and what is left
-module _ (h a : Uint128) where
-  pub taken_told : (r : Uint128) → taken_of h a ≡ Ok r → (val a ≤ val h) × (r ≡ halves (val h - val a))
-  unfolding taken_of
-  taken_told r e = difference_is _ _ r (sym (some_told (checked_less (val h) (val a)) _ r e))
-
-  pub short_told : (e : BookError) → taken_of h a ≡ Err e → (val h < val a) × (e ≡ Profile (InsufficientQuantity (whole_of h) (whole_of a)))
-  unfolding taken_of
-  short_told e k = let n = none_told (checked_less (val h) (val a)) _ e k in (difference_none _ _ (sym n.0), n.1)
-
 -- ---- a refusal, and an acceptance
 
 pub next_kept : (b : Book) (s : Step) (e : BookError) → Err e ≡ answer b s → b ≡ next b s
@@ -137,11 +128,12 @@ pub stored_whole : (b : Book) (p t : ℕ) (n : Name) (x : View) → is_well_form
       unit = b.unit;
       opened = x.opened;
       pending = x.pending;
-      places = set b.places p (record { subject = n; balance = whole_of x.held });
+      places = set b.places p (record { subject = n; balance = whole_of x.held; reserved = whole_of x.reserved });
       transfers = set b.transfers t (carrying x 0);
     }
 unfolding stored_at
-stored_whole b p t n x w low low-t = rw (((formed b w).whole_places p low).balance, (formed b w).whole_transfers t low-t)
+stored_whole b p t n x w low low-t =
+    let z = (formed b w).whole_places p low in rw (z.balance, z.reserved, (formed b w).whole_transfers t low-t)
 
 -- ---- an arm: s is the step that was matched, z what it is
 

@@ -1,7 +1,6 @@
 -- What the code of a step goes by: a step without its sheet, what it looks at in a book, and the book with what it leaves.
-use Rattle.std.specs.Prelude.{◌≡◌, Bool, true, false, cond, List, [], ◌∷◌, ℕ, ◌+◌, ◌%◌, leb, length, set, Some, ok_or, Result, Ok, Err}
-use Rattle.amount.specs.Numbers.{val, halves}
-use Rattle.amount.specs.Helpers.{checked_less}
+use Rattle.std.specs.Prelude.{◌≡◌, Bool, true, false, cond, List, [], ◌∷◌, ℕ, ◌+◌, ◌%◌, leb, length, set, Option, Some, None, Result, Ok, Err}
+use Rattle.amount.specs.Numbers.{halves}
 use Rattle.amount.specs.declared.Amount.{Amount}
 use Rattle.amount.specs.declared.uint128.Uint128.{Uint128}
 use Rattle.sheet.specs.Fields.{Field, subject, authorized_by}
@@ -11,12 +10,14 @@ use Rattle.registry.specs.Tests.{among}
 use Rattle.registry.specs.declared.error.ProfileError.TheVariants.{InsufficientQuantity}
 use Rattle.book.specs.Book.{name_bytes, name_of, blank_name, place_record, transfer_record, total, awaited}
 use Rattle.book.specs.Refusals.{BookOutcome}
-use Rattle.book.specs.Steps.{Step, Open, Act, Begin, Finish, Cancel, Close, bytes_in, answer, next, issues, takes}
+use Rattle.book.specs.Steps.{Step, Open, Act, Begin, Finish, Cancel, Close, bytes_in, acts, Doing, Issuing, Taking, Reserving, Releasing, doing, answer, next, issues, takes}
 use Rattle.book.specs.declared.Book.{Book}
 use Rattle.book.specs.declared.Name.{Name}
 use Rattle.book.specs.declared.error.BookError.{BookError}
 use Rattle.book.specs.declared.error.BookError.TheVariants.{Profile}
 use Rattle.audit.specs.Totals.{total_of}
+use Rattle.steps.specs.declared.act.Doing.{Doing as CodeDoing}
+use Rattle.steps.specs.declared.act.Doing.TheVariants as Does
 use Rattle.steps.specs.declared.step.Step.{Step as Kind}
 use Rattle.steps.specs.declared.step.Step.TheVariants as Code
 use Rattle.steps.specs.declared.step.View.{View}
@@ -88,6 +89,16 @@ subject_after (Code.Finish t) old i = old
 subject_after (Code.Cancel t) old i = old
 subject_after (Code.Close p) old i = blank_name
 
+-- what an operation of act does, as the code has it, and none of another
+abbrev pub in_code : Doing → CodeDoing
+in_code Issuing = Does.Issuing
+in_code Taking = Does.Taking
+in_code Reserving = Does.Reserving
+in_code Releasing = Does.Releasing
+
+unfoldable pub doing_of : ℕ → Option CodeDoing
+doing_of o = cond (acts o) (Some (in_code (doing o))) None
+
 -- the operations of act that name who authorized them
 unfoldable pub authorized : ℕ → Bool
 authorized o = among o (12 ∷ 19 ∷ [])
@@ -101,6 +112,7 @@ authorizing o inp = cond (authorized o) (text_in authorized_by (inp authorized_b
 -- x is what a step looks at in b
 pub record Shows (b : Book) (s : Kind) (x : View) : Type 0 where
   pub held : x.held ≡ (place_record b (spot b s)).balance.mantissa
+  pub reserved : x.reserved ≡ (place_record b (spot b s)).reserved.mantissa
   pub carried : x.carried ≡ (transfer_record b (transfer_of s)).amount.mantissa
   pub total : x.total ≡ total_of b
   pub opened : x.opened ≡ b.opened
@@ -117,7 +129,12 @@ stored_at b p t n x =
       unit = b.unit;
       opened = x.opened;
       pending = x.pending;
-      places = set b.places p (record { subject = n; balance = record { mantissa = x.held; scale = (place_record b p).balance.scale } });
+      places = set b.places p
+          (record {
+            subject = n;
+            balance = record { mantissa = x.held; scale = (place_record b p).balance.scale };
+            reserved = record { mantissa = x.reserved; scale = (place_record b p).reserved.scale };
+          });
       transfers = set b.transfers t
           (record { from = x.from; to = x.to; amount = record { mantissa = x.carried; scale = (transfer_record b t).amount.scale } });
     }
@@ -129,12 +146,12 @@ stored b s i (Err e) = b
 
 -- ---- the turn
 
--- what is left of what is held, or 15
 abbrev pub whole_of : Uint128 → Amount
 whole_of n = record { mantissa = n; scale = 0 }
 
-unfoldable pub taken_of : Uint128 → Uint128 → Result Uint128 BookError
-taken_of held asked = ok_or (checked_less (val held) (val asked)) (Profile (InsufficientQuantity (whole_of held) (whole_of asked)))
+-- 15: more is asked for than is held
+abbrev pub short_of : Uint128 → Uint128 → BookError
+short_of held asked = Profile (InsufficientQuantity (whole_of held) (whole_of asked))
 
 -- whether it is accepted
 abbrev pub outcome_of : {A : Type 0} → Result A BookError → BookOutcome

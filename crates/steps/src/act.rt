@@ -1,20 +1,29 @@
 // An act: an operation of the balance profile at one place.
 ghost use Rattle.std.specs.Prelude.{◌≡◌};
 ghost use Rattle.book.specs.declared.Book.{Book};
-ghost use Rattle.book.specs.Steps.{adds, acts};
 ghost use Rattle.sheet.specs.Fields.{field};
-ghost use Rattle.steps.specs.Turn.{Shows, Turned, authorizing};
+ghost use Rattle.steps.specs.Turn.{Shows, Turned, authorizing, doing_of};
 ghost use Rattle.steps.specs.declared.step.Step.TheVariants as Code;
 
-use crate::step::{PLACES, View, taken};
+use crate::step;
+use crate::step::{PLACES, View};
 use amount::Uint128;
 use book::error::BookError;
 use registry::error::ProfileError;
 use registry::op;
 use sheet::{AMOUNT, AUTHORIZED_BY};
 
-// Refusal 22: off the book; 6: the place is closed; 2: a torn sheet; 4: no operation of act; those of the profile's check; 25: too much.
-// Then the amount is added or subtracted.
+// What an operation of act does with its amount: issues or takes it, or moves it from the balance to what is reserved, or back.
+#[derive(Clone, Copy)]
+enum Doing {
+    Issuing,
+    Taking,
+    Reserving,
+    Releasing,
+}
+
+// Refusal 22: off the book; 6: the place is closed; 2: a torn sheet; 4: no operation of act; those of the profile's check; then 25, too much, of what
+// issues, and 31, not reserved, of a release.
 pub(crate) fn act(
     was: View,
     total: Uint128,
@@ -32,9 +41,9 @@ pub(crate) fn act(
         return Err(BookError::Profile(ProfileError::Unborn));
     }
     registry::require_sound_input(sheet)?;
-    if !is_act(operation) {
+    let Some(doing) = doing_of(operation) else {
         return Err(BookError::Profile(ProfileError::UnknownOperation));
-    }
+    };
     require_authorized(operation, sheet)?;
     // a match: with `?` std's `branch` is called, 45 instructions of each step
     let asked = match registry::input_amount(sheet, AMOUNT) {
@@ -43,42 +52,61 @@ pub(crate) fn act(
     };
     registry::require_positive(asked)?;
     let amount = asked.mantissa;
-    if is_adding(operation) {
-        // std's `ok_or` would be called, 57 instructions
-        let Some(sum) = total.checked_add(amount) else {
-            return Err(BookError::TooMuch);
-        };
-        return Ok(View {
-            held: was.held.wrapping_add(amount),
-            total: Some(sum),
-            ..was
-        });
+    match doing {
+        Doing::Issuing => {
+            // std's `ok_or` would be called, 57 instructions
+            let Some(sum) = total.checked_add(amount) else {
+                return Err(BookError::TooMuch);
+            };
+            Ok(View {
+                held: was.held.wrapping_add(amount),
+                total: Some(sum),
+                ..was
+            })
+        }
+        Doing::Taking => {
+            let Some(held) = was.held.checked_sub(amount) else {
+                return Err(step::short(was.held, amount));
+            };
+            Ok(View {
+                held,
+                total: Some(total.wrapping_sub(amount)),
+                ..was
+            })
+        }
+        Doing::Reserving => {
+            let Some(held) = was.held.checked_sub(amount) else {
+                return Err(step::short(was.held, amount));
+            };
+            Ok(View {
+                held,
+                reserved: was.reserved.wrapping_add(amount),
+                ..was
+            })
+        }
+        Doing::Releasing => {
+            let Some(reserved) = was.reserved.checked_sub(amount) else {
+                return Err(BookError::NotReserved);
+            };
+            Ok(View {
+                held: was.held.wrapping_add(amount),
+                reserved,
+                ..was
+            })
+        }
     }
-    let rest = taken(was.held, amount)?;
-    Ok(View {
-        held: rest,
-        total: Some(total.wrapping_sub(amount)),
-        ..was
-    })
 }
 
-// The operations that add.
-fn is_adding(operation: u8) -> bool
-    ensures { result ≡ adds operation }
+// None for an operation that is not one of act's.
+fn doing_of(operation: u8) -> Option<Doing>
+    ensures { result ≡ doing_of operation }
 {
     match operation {
-        op::BALANCE_MINT | op::BALANCE_CREDIT | op::BALANCE_RELEASE => true,
-        _ => false,
-    }
-}
-
-// The operations of act: those that add, and those that subtract.
-fn is_act(operation: u8) -> bool
-    ensures { result ≡ acts operation }
-{
-    match operation {
-        op::BALANCE_DEBIT | op::BALANCE_RESERVE | op::BALANCE_SPEND | op::BALANCE_BURN => true,
-        _ => is_adding(operation),
+        op::BALANCE_MINT | op::BALANCE_CREDIT => Some(Doing::Issuing),
+        op::BALANCE_DEBIT | op::BALANCE_SPEND | op::BALANCE_BURN => Some(Doing::Taking),
+        op::BALANCE_RESERVE => Some(Doing::Reserving),
+        op::BALANCE_RELEASE => Some(Doing::Releasing),
+        _ => None,
     }
 }
 

@@ -5,8 +5,8 @@ ghost use Rattle.book.specs.declared.Book.{Book};
 ghost use Rattle.steps.specs.Turn.{Shows, Turned};
 ghost use Rattle.steps.specs.declared.step.Step.TheVariants as Code;
 
-use crate::sets;
-use crate::step::{PLACES, TRANSFERS, View, taken};
+use crate::step::{PLACES, TRANSFERS, View};
+use crate::{sets, step};
 use book::error::BookError;
 use registry::error::ProfileError;
 use sheet::{AMOUNT, TO_SUBJECT};
@@ -45,7 +45,9 @@ pub(crate) fn begin(
         Err(e) => return Err(BookError::Profile(e)),
     };
     registry::require_positive(asked)?;
-    let rest = taken(was.held, asked.mantissa)?;
+    let Some(rest) = was.held.checked_sub(asked.mantissa) else {
+        return Err(step::short(was.held, asked.mantissa));
+    };
     Ok(View {
         held: rest,
         carried: asked.mantissa,

@@ -22,7 +22,7 @@ pub(crate) fn close(was: View, place: u8) -> Result<View, BookError>
     if !audit::has(was.opened, place) {
         return Err(BookError::Profile(ProfileError::Unborn));
     }
-    if !was.held.is_zero() {
+    if !was.held.is_zero() || !was.reserved.is_zero() {
         return Err(BookError::NotEmpty);
     }
     if was.awaited {
@@ -30,6 +30,7 @@ pub(crate) fn close(was: View, place: u8) -> Result<View, BookError>
     }
     Ok(View {
         held: Uint128::ZERO,
+        reserved: Uint128::ZERO,
         opened: sets::without16(was.opened, place % PLACES),
         ..was
     })

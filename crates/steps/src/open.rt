@@ -46,6 +46,7 @@ pub(crate) fn open(
     };
     Ok(View {
         held: balance.mantissa,
+        reserved: Uint128::ZERO,
         total: Some(sum),
         opened: sets::with16(was.opened, place % PLACES),
         ..was

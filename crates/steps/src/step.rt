@@ -1,6 +1,6 @@
 // A step of the book without its sheet, and what a step looks at and leaves.
 ghost use Rattle.std.specs.Prelude.{◌≡◌};
-ghost use Rattle.steps.specs.Turn.{place_of, destination_of, transfer_of, subject_after, taken_of};
+ghost use Rattle.steps.specs.Turn.{place_of, destination_of, transfer_of, subject_after, short_of};
 
 use crate::names;
 use amount::{Amount, Uint128};
@@ -24,13 +24,14 @@ pub enum Step {
     Close(u8),
 }
 
-// What a step looks at and may alter, in words: what one place holds, one transfer's ends and amount, the two sets, and the total, which a
-// book that fails test 28 has not. `awaited` is whether a transfer under way names the place that a close closes; no step alters it, and it stands
+// What a step looks at and may alter, in words: what one place holds and has reserved, one transfer's ends and amount, the two sets, and the total,
+// which a book that fails test 28 has not. `awaited` is whether a transfer under way names the place that a close closes; no step alters it, and it stands
 // before the ends, so that they are read and stored as one word. Names are not here: the unit is passed beside it, `named` is how long the
 // destination's subject is, always, and only an open and a close write one.
 #[derive(Clone, Copy)]
 pub struct View {
     pub held: Uint128,
+    pub reserved: Uint128,
     pub carried: Uint128,
     pub total: Option<Uint128>,
     pub opened: u16,
@@ -86,23 +87,19 @@ impl Step {
     }
 }
 
-// What is left of what is held. Refusal 15: more is asked for than that. Inlined, and not by `ok_or`, so that the refusal's amounts are
-// copied where it refuses alone.
-#[inline]
-pub(crate) fn taken(held: Uint128, asked: Uint128) -> Result<Uint128, BookError>
-    ensures { result ≡ taken_of held asked }
+// Refusal 15: more is asked for than is held. Each that takes subtracts by itself, with `let .. else`: a `Result` of what is left would be taken apart by
+// a call of std's `branch`, 60 instructions.
+pub(crate) fn short(held: Uint128, asked: Uint128) -> BookError
+    ensures { result ≡ short_of held asked }
 {
-    let Some(rest) = held.checked_sub(asked) else {
-        return Err(BookError::Profile(ProfileError::InsufficientQuantity {
-            available: Amount {
-                mantissa: held,
-                scale: 0,
-            },
-            requested: Amount {
-                mantissa: asked,
-                scale: 0,
-            },
-        }));
-    };
-    Ok(rest)
+    BookError::Profile(ProfileError::InsufficientQuantity {
+        available: Amount {
+            mantissa: held,
+            scale: 0,
+        },
+        requested: Amount {
+            mantissa: asked,
+            scale: 0,
+        },
+    })
 }

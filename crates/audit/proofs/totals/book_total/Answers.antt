@@ -2,7 +2,7 @@ use Rattle.std.proofs.Common.{ℕ, sym, ap, ◌∙◌, arith}
 use Rattle.book.specs.Sets.{has}
 use Rattle.book.specs.Book.{place_record, transfer_record}
 use Rattle.audit.proofs.Sound.{none_counted, places_counted, all_counted}
-use Rattle.audit.proofs.Sums.{wrapped_next, wrapped_same, stock_counts, carried_counts}
+use Rattle.audit.proofs.Sums.{wrapped_next, wrapped_twice, wrapped_same, stock_counts, carried_counts}
 use Rattle.audit.proofs.totals.book_total.Goals.{then-has, else-has, then-has-2, else-has-2}
 use Rattle.audit.proofs.totals.book_total.Goals as goal
 
@@ -14,7 +14,8 @@ unfolding place_record
 loop-p-preserved c =
     let counts = stock_counts c.args.book.now c.loop-p.p in
     elim c.if-has.branch [
-      | then-has w ↦ wrapped_next c.loop-p.invariant _ _ (counts _ (sym w.if-has.true ∙ c.has.ensures)) (w.sum-is ∙ w.wrapping_add-sum.ensures)
+      | then-has w ↦ wrapped_next c.loop-p.invariant _ _ (counts _ (sym w.if-has.true ∙ c.has.ensures))
+          (wrapped_twice _ _ _ _ _ w.wrapping_add.ensures (w.sum-is ∙ w.wrapping_add-sum.ensures))
       | else-has w ↦ wrapped_same c.loop-p.invariant _ (counts _ (sym w.if-has.false ∙ c.has.ensures)) w.sum-is
     ]
 

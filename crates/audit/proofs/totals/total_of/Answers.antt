@@ -1,8 +1,9 @@
 use Rattle.std.proofs.Common.{ℕ, sym, ap, ◌∙◌, subst, arith}
 use Rattle.book.specs.Sets.{has}
 use Rattle.book.specs.Book.{place_record, transfer_record, name_ok}
+use Rattle.book.proofs.Formed.{Whole}
 use Rattle.audit.proofs.Sound.{PlacesSeen, TransfersSeen, no_places, open_place_lem, closed_place, no_transfers, pending_transfer, idle_transfer, passed, unit_fails, place_scale_fails, subject_fails, transfer_scale_fails, ends_fail}
-use Rattle.audit.proofs.totals.total_of.Goals.{then-has+else-not-is_name_length-2, else-has, then-has-2+else-not-both, else-has-2}
+use Rattle.audit.proofs.totals.total_of.Goals.{then-place-ne0-via-then-place-ne0, then-place-ne0-via-else-place-ne0+then-place-ne0-2, then-has+else-not-is_name_length-2, else-has, then-has-2+else-not-both, else-has-2}
 use Rattle.audit.proofs.totals.total_of.Goals as goal
 
 pub returns-then-not-is_name_length : goal.returns-then-not-is_name_length
@@ -14,7 +15,12 @@ loop-p-init c = no_places c.args.book.now
 
 pub returns-then-place-ne0 : goal.returns-then-place-ne0
 unfolding place_record
-returns-then-place-ne0 c = place_scale_fails c.args.book.now c.loop-p.p c.loop-p-test.true c.if-place-ne0.true
+returns-then-place-ne0 c =
+    let fails = place_scale_fails c.args.book.now c.loop-p.p c.loop-p-test.true in
+    elim c.then-place-ne0.branch [
+      | then-place-ne0-via-then-place-ne0 w ↦ fails (λ z. w.if-place-ne0.true z.balance)
+      | then-place-ne0-via-else-place-ne0+then-place-ne0-2 w ↦ fails (λ z. w.if-place-ne0-2.true z.reserved)
+    ]
 
 pub returns-then-not-is_name_length-2 : goal.returns-then-not-is_name_length-2
 unfolding place_record name_ok
@@ -25,10 +31,11 @@ pub loop-p-preserved : goal.loop-p-preserved
 unfolding place_record name_ok
 loop-p-preserved c =
     let test = sym c.has.ensures in
+    let scales : Whole (place_record c.args.book.now c.loop-p.p) = record { balance = c.if-place-ne0.false; reserved = c.if-place-ne0-2.false } in
     elim c.if-has.branch [
       | then-has+else-not-is_name_length-2 w ↦
-          open_place_lem _ c.loop-p.p c.loop-p.invariant c.if-place-ne0.false (test ∙ w.if-has.true) (sym w.is_name_length-then-has.ensures ∙ w.if-not-is_name_length-2.false) w.sum-is w.plus-sum.ensures
-      | else-has w ↦ closed_place _ c.loop-p.p c.loop-p.invariant c.if-place-ne0.false (test ∙ w.if-has.false) w.sum-is
+          open_place_lem _ c.loop-p.p c.loop-p.invariant scales (test ∙ w.if-has.true) (sym w.is_name_length-then-has.ensures ∙ w.if-not-is_name_length-2.false) w.sum-is w.plus.ensures w.plus-sum.ensures
+      | else-has w ↦ closed_place _ c.loop-p.p c.loop-p.invariant scales (test ∙ w.if-has.false) w.sum-is
     ]
 
 pub loop-t-init : goal.loop-t-init

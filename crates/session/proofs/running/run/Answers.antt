@@ -8,4 +8,4 @@ returns-then-is_good c = rw (sym c.is_good.ensures ∙ c.if-is_good.true) c.do_s
 
 pub returns-else-is_good : goal.returns-else-is_good
 unfolding run_of
-returns-else-is_good c = rw (sym c.is_good.ensures ∙ c.if-is_good.false) c.bad_run.ensures
+returns-else-is_good c = rw (sym c.is_good.ensures ∙ c.if-is_good.false) c.bad_run-run.ensures

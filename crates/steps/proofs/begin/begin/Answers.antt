@@ -1,13 +1,13 @@
 use Rattle.steps.proofs.Tested.{Past, past_sound, pass, stop, all_passed, Here, busy_as, both_as, ends_as, both_here}
 use Rattle.steps.proofs.Checks.{amounts, asks_for, asks_number, is_whole, amounts_failed, amounts_nothing, amounts_short, amounts_taken, begin_nameless, begin_check}
-use Rattle.steps.proofs.Turned.{held_whole, uncharged, taken_told, short_told, refuses, accepts}
+use Rattle.steps.proofs.Turned.{held_whole, uncharged, refuses, accepts}
 use Rattle.steps.proofs.Stored.{low_ends, stored_begin}
 use Rattle.steps.specs.Turn.{Shows, whole_of}
 use Rattle.steps.specs.declared.step.Step.TheVariants as Code
 use Rattle.steps.specs.declared.step.View.{View}
 use Rattle.amount.specs.Numbers.{val}
 use Rattle.amount.specs.declared.Amount.{Amount}
-use Rattle.amount.proofs.Halves.{val_of}
+use Rattle.amount.proofs.Halves.{val_of, difference_is, difference_none}
 use Rattle.sheet.specs.Sheet.{sound_as}
 use Rattle.sheet.specs.declared.Shape.TheVariants.{Input}
 use Rattle.sheet.specs.Fields.{field, amount, to_subject}
@@ -188,18 +188,17 @@ returns-in_err-require_positive c b sound v =
     (nothing (ready (goal.at.returns-in_err-require_positive c).In_ok-require_sound_input sound v) c.if-was-eq0.false
     (sym c.input_amount.ensures ∙ c.in-Ok.is) _ (sym c.require_positive.ensures ∙ c.in_err-require_positive.was))
 
-pub returns-in_err-rest : goal.returns-in_err-rest
-returns-in_err-rest c b sound v =
-    let short· = short_told c.args.was.held c.in-Ok.a.mantissa _ (sym c.taken.ensures ∙ c.in_err-rest.was) in
-    refuses _ _ _ (exits _ _ c.from_residual-in_err-rest.ensures.1 ∙ ap Err short·.1)
-    (short (ready (goal.at.returns-in_err-rest c).In_ok-require_sound_input sound v) c.if-was-eq0.false
-    (sym c.input_amount.ensures ∙ c.in-Ok.is) (sym c.require_positive.ensures ∙ c.in_ok-require_positive.was) short·.0)
+pub returns-in_default : goal.returns-in_default
+returns-in_default c b sound v =
+    refuses _ _ _ (ap Err c.short.ensures)
+    (short (ready (goal.at.returns-in_default c).In_ok-require_sound_input sound v) c.if-was-eq0.false
+    (sym c.input_amount.ensures ∙ c.in-Ok.is) (sym c.require_positive.ensures ∙ c.in_ok-require_positive.was) (difference_none _ _ (sym c.in_default.is ∙ c.checked_sub.ensures)))
 
 pub returns : goal.returns
 returns c b sound v =
     let r = ready (goal.at.returns c).In_ok-require_sound_input sound v in
     let given = sym c.input_amount.ensures ∙ c.in-Ok.is in
-    let rest = taken_told c.args.was.held c.in-Ok.a.mantissa _ (sym c.taken.ensures ∙ c.in_ok-rest.was) in
+    let rest = difference_is _ _ _ (sym c.in-Some.is ∙ c.checked_sub.ensures) in
     let yes· = taken r c.if-was-eq0.false given (sym c.require_positive.ensures ∙ c.in_ok-require_positive.was) rest.0 in
     accepts _ _ yes·
     (stored_begin b _ _ _ c.args.sheet.now yes· _ _ _ _ v (rest.1 ∙ rw (r.held, asks r c.if-was-eq0.false given)) (asks_number amount c.args.sheet.now _ given) c.with8.ensures)

@@ -12,3 +12,5 @@ returns c =
     then c.put-2.ensures
     then c.put_amount.ensures
     then c.put-3.ensures
+    then c.put_amount-2.ensures
+    then c.put-4.ensures

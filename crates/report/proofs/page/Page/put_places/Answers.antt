@@ -17,7 +17,8 @@ loop-p-init c = wrote_none _
 pub put_place-requires-clause-whole : goal.put_place-requires-clause-whole
 unfolding place_record
 put_place-requires-clause-whole c =
-    ((formed c.args.book.now c.requires.whole).whole_places c.loop-p.p (search rules)).balance
+    let whole = (formed c.args.book.now c.requires.whole).whole_places c.loop-p.p (search rules) in
+    (whole.balance, whole.reserved)
 
 pub loop-p-preserved : goal.loop-p-preserved
 loop-p-preserved c =
