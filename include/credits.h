@@ -23,13 +23,13 @@
  * Stack. The deepest that was measured below each call on x86-64, in bytes, without the result's own memory. It is measured
  * on many inputs and not proved; docs/PERFORMANCE.md says how, and has estimates for a Cortex-M0.
  *
- *   credits_amount_read      128    credits_credit         1248    credits_book_finish       856
- *   credits_amount_compare    56    credits_book_start      552    credits_book_cancel       856
- *   credits_amount_add       112    credits_book_open      1072    credits_book_close        856
- *   credits_amount_sub       112    credits_book_act       1072    credits_session_run      5504
- *   credits_amount_text      968    credits_book_begin     1072    credits_session_listing  5520
- *   credits_check           1312
- *   credits_apply           1456
+ *   credits_amount_read      128    credits_credit         1344    credits_book_finish       920
+ *   credits_amount_compare    56    credits_book_start      152    credits_book_cancel       920
+ *   credits_amount_add       112    credits_book_open      1024    credits_book_close        920
+ *   credits_amount_sub       112    credits_book_act       1024    credits_session_run      5296
+ *   credits_amount_text      968    credits_book_begin     1024    credits_session_listing  5312
+ *   credits_check           1280
+ *   credits_apply           1376
  */
 #ifndef CREDITS_H
 #define CREDITS_H

@@ -1,5 +1,5 @@
 -- What the code's shifts and masks are of the sets of specs/Sets.antt.
-use Rattle.std.proofs.Common.{◌≡◌, ℕ, zero, suc, ◌-◌, ◌*◌, ◌/◌, ◌%◌, ◌^◌, ◌<◌, sym, ap, ◌∙◌, le_of_suc-le-suc, not-suc-le-zero, mod-eq_of_lt, mul_comm, pow-suc, arith, pow_pos}
+use Rattle.std.proofs.Common.{◌≡◌, ℕ, eqb, zero, suc, ◌-◌, ◌*◌, ◌/◌, ◌%◌, ◌^◌, ◌<◌, sym, ap, ◌∙◌, le_of_suc-le-suc, not-suc-le-zero, mod-eq_of_lt, mul_comm, pow-suc, arith, pow_pos}
 use native.Mathlib.Nat.{div-div-eq-div-mul}
 use lib.Bits.{bit_and, bit_or, and_step, or_step, or_zero_r, and_mask}
 use lib.Pow.{pow-lt}
@@ -14,6 +14,10 @@ bit_shift n (suc p) =
 
 pub bit_mask : (n : ℕ) → bit_and n 1 ≡ n % 2
 bit_mask n = and_mask n 1
+
+-- bit p, as the code looks at it
+pub bit_found : (n p : ℕ) → eqb (bit_and (n / 2 ^ p) 1) 1 ≡ eqb (bit n p) 1
+bit_found n p = rw (bit_mask (n / 2 ^ p), ← (bit_shift n p))
 
 pub or_bit : (n p : ℕ) → bit_or n (2 ^ p) ≡ with_bit n p 1
 unfolding with_bit

@@ -277,10 +277,14 @@ demand3 u h steps =
           well_formed = passes_28 (run (start_book u) ss) k.inv.good k.inv.fits;
         }
 
+-- every book of a run has a book's shape
+pub in_shape : (u : List ℕ) → start_answer u ≡ Ok tt → (steps : List Step) → Shape (run (start_book u) steps)
+in_shape u h steps = (from_start u h steps).inv.good.shape
+
 -- there is an order of finishing: the claim on orders is not empty
 pub some_order : (u : List ℕ) → start_answer u ≡ Ok tt → (steps : List Step)
     → EachOnce (run (start_book u) steps) (members (run (start_book u) steps).pending 8)
-some_order u h steps = an_order (run (start_book u) steps) (from_start u h steps).inv.good.shape
+some_order u h steps = an_order (run (start_book u) steps) (in_shape u h steps)
 
 -- ---- lists without cancels: the plain book is fed all the accepted steps, as document 01 says
 

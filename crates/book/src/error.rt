@@ -52,10 +52,11 @@ impl From<ProfileError> for BookError {
     }
 }
 
-// The number, detail and amounts of a refusal.
+// The number, detail and amounts of a refusal. Inlined, so that a run, which keeps two numbers of it, copies no answer.
 impl From<BookError> for Answer {
     ghost from_gives = { λ e a. a ≡ book_refusal_of e };
 
+    #[inline(always)]
     fn from(e: BookError) -> Answer {
         match e {
             BookError::Profile(p) => Answer::from(p),

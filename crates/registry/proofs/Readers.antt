@@ -12,16 +12,18 @@ use Rattle.amount.specs.Amounts.{read_of}
 use Rattle.amount.specs.Numbers.{limit, halves}
 use Rattle.amount.specs.Decimal.{is_digit, all_digits, decimal}
 use Rattle.amount.specs.declared.Amount.{Amount}
+use Rattle.amount.specs.declared.uint128.Uint128.{Uint128}
 use Rattle.amount.specs.declared.AmountError.{AmountError}
 use Rattle.std.specs.List.{list_any}
 use Rattle.amount.proofs.Reading.{read_not_digits, if_is}
 use Rattle.sheet.specs.Amounts.{amount_at}
 use Rattle.sheet.specs.Fields.{Field, absent, text, figure, other, field_of_kind}
 use Rattle.registry.specs.Readers.{marked, is_mark, text_of, bytes_of, given_or, parsed, amount_by, amount_in, amount_of}
-use Rattle.registry.specs.Helpers.{read_in, fault_in}
+use Rattle.registry.specs.Helpers.{read_in, fault_in, mantissa_in}
+use Rattle.registry.specs.Refusals.{Reading}
 use Rattle.registry.proofs.Tests.{failed_never}
 use Rattle.registry.specs.declared.error.ProfileError.TheVariants.{NotWhole, FloatForbidden}
-use Rattle.std.specs.Prelude.{Result, Ok, Err}
+use Rattle.std.specs.Prelude.{Some, None, Result, Ok, Err}
 
 -- what is not a text is an amount or a value that is no string, and a reader that answers both alike answers so
 pub not_text : {A : Type 0} (f : Field → A) (x : A) (kind : ℕ) (body : List ℕ) → x ≡ f (figure (amount_at body 0)) → x ≡ f other → kind ≢ 1 → x ≡ f (field_of_kind kind body)
@@ -87,6 +89,27 @@ amount_in_whole n (text t) a h = go (marked t) (read_of t) refl h
         let w = if_is AmountError.NotWhole _ (decimal t) 0 a (sym (e ∙ ap Ok cc)) in
         (decimal t, w.1, w.2)
     go false (Err x) e k = failed_never _ a k
+
+-- an input amount by its mantissa, and by why there is none
+pub mantissa_given : (n : ℕ) (f : Field) (m : Uint128) → mantissa_in (amount_in n f) ≡ Some m → amount_in n f ≡ Ok (record { mantissa = m; scale = 0 })
+mantissa_given n f m h = go (amount_in n f) refl h
+  where
+    go : (r : Reading) → amount_in n f ≡ r → mantissa_in r ≡ Some m → r ≡ Ok (record { mantissa = m; scale = 0 })
+    go (Ok a) e k =
+        let w = amount_in_whole n f a e in
+        let x : a.mantissa ≡ halves w.0 = ap (λ (z : Amount). z.mantissa) w.2 in
+        let y : m ≡ a.mantissa = cc in
+        ap Ok (w.2 ∙ ap (λ (z : Uint128). record { mantissa = z; scale = 0 }) (sym (y ∙ x)))
+    go (Err e) d k = let z : ◌≡◌ {A = ℕ} 0 1 = cc in absurd (omega arith)
+
+pub mantissa_absent : (n : ℕ) (f : Field) → mantissa_in (amount_in n f) ≡ None → amount_in n f ≡ Err (fault_in n f)
+mantissa_absent n f h = go (read_in f) (amount_in_is n f)
+  where
+    go : (o : Result Amount AmountError) → amount_in n f ≡ given_or (fault_in n f) o → amount_in n f ≡ Err (fault_in n f)
+    go (Ok a) e =
+        let k : Some a.mantissa ≡ None = sym (ap mantissa_in e) ∙ h in
+        let z : ◌≡◌ {A = ℕ} 0 1 = cc in absurd (omega arith)
+    go (Err x) e = e
 
 -- a state's amount that was read is the field
 pub amount_of_is : (n : ℕ) (f : Field) (a : Amount) → amount_of n f ≡ Ok a → f ≡ figure a

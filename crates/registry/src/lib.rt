@@ -8,14 +8,14 @@ ghost use Rattle.sheet.specs.Fields.{field, field_of};
 ghost use Rattle.sheet.specs.Sheet.{state_of, sound_as};
 ghost use Rattle.sheet.specs.declared.Shape.TheVariants.{Input};
 ghost use Rattle.registry.specs.Readers.{text_in, text_of, bytes_of, marked, amount_in, amount_of};
-ghost use Rattle.registry.specs.Helpers.{read_in, fault_in, taking};
+ghost use Rattle.registry.specs.Helpers.{read_in, fault_in, mantissa_in, taking};
 ghost use Rattle.registry.specs.Tests.{state_there, state_absent, above_zero, unless_less, held_by, up_to, first_of, creates, born, in_amount, ◌then◌};
 ghost use Rattle.registry.specs.Call.{state_sound, input_sound, profile_of, operation_of, called};
 
 pub mod error;
 pub mod op;
 
-use amount::{Amount, AmountError};
+use amount::{Amount, AmountError, Uint128};
 use error::ProfileError;
 use sheet::{Entry, Shape, State};
 use std::cmp::Ordering;
@@ -137,17 +137,38 @@ pub(crate) fn parse_amount_str(input: &[u8], e: Entry) -> Result<Amount, AmountE
     Amount::try_from_str(sheet::entry_body(input, e))
 }
 
+// The mantissa of an amount that an input gives as text, whose scale is 0; none where it gives no such amount, and `amount_refusal` says why.
+// Beside a refusal, in one `Result`, it is copied by pieces that the processor waits for.
+pub fn input_mantissa(input: &[u8], name: u8) -> Option<Uint128>
+    ensures { result ≡ mantissa_in (amount_in name (field input.now name)) }
+{
+    let Some(e) = sheet::find(input, name) else {
+        return None;
+    };
+    let Ok(a) = parse_amount_str(input, e) else {
+        return None;
+    };
+    Some(a.mantissa)
+}
+
+// Why an input gives no amount of that name, where it gives none.
+pub fn amount_refusal(input: &[u8], name: u8) -> ProfileError
+    ensures { result ≡ fault_in name (field input.now name) }
+{
+    let Some(e) = sheet::find(input, name) else {
+        return ProfileError::Missing(name);
+    };
+    amount_fault(input, e, name)
+}
+
 // An amount that an input gives as text.
 pub fn input_amount(input: &[u8], name: u8) -> Result<Amount, ProfileError>
     ensures { result ≡ amount_in name (field input.now name) }
 {
-    let Some(e) = sheet::find(input, name) else {
-        return Err(ProfileError::Missing(name));
+    let Some(mantissa) = input_mantissa(input, name) else {
+        return Err(amount_refusal(input, name));
     };
-    let Ok(a) = parse_amount_str(input, e) else {
-        return Err(amount_fault(input, e, name));
-    };
-    Ok(a)
+    Ok(Amount { mantissa, scale: 0 })
 }
 
 // An amount that a state holds.

@@ -11,7 +11,7 @@ use registry::error::ProfileError;
 use registry::{input_amount, input_str, require_current, state_amount, state_str};
 use sheet::{AMOUNT, BALANCE, SUBJECT, TO_SUBJECT, TO_UNIT, UNIT};
 
-// What is held less what is asked.
+// What is held less what is asked. `let .. else`, as in `raised`: std's `or` copies the whole `Result` once more.
 pub(crate) fn lowered(
     state: &[u8],
     input: &[u8],
@@ -22,7 +22,10 @@ pub(crate) fn lowered(
 {
     let current = state_amount(state, held)?;
     let amount = input_amount(input, asked)?;
-    current.checked_sub(amount).or(Err(ProfileError::Underflow))
+    let Ok(left) = current.checked_sub(amount) else {
+        return Err(ProfileError::Underflow);
+    };
+    Ok(left)
 }
 
 // The amount of a create.
@@ -124,5 +127,8 @@ fn raised(state: &[u8], input: &[u8], held: u8, asked: u8) -> Result<Amount, Pro
 {
     let current = state_amount(state, held)?;
     let amount = input_amount(input, asked)?;
-    current.checked_add(amount).or(Err(ProfileError::Overflow))
+    let Ok(sum) = current.checked_add(amount) else {
+        return Err(ProfileError::Overflow);
+    };
+    Ok(sum)
 }

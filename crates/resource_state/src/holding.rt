@@ -13,7 +13,8 @@ use registry::error::ProfileError;
 use registry::op;
 use sheet::{AMOUNT, BALANCE, QUANTITY, SUBJECT, TO_UNIT, UNIT};
 
-// A stack with these texts and the amount that was read. `balance` makes another variant of other fields, the Rust's.
+// A stack with these texts and the amount that was read. `balance` makes another variant of other fields, the Rust's. A match: std's `map` copies
+// the whole `Result` once more, which the processor waits for.
 pub fn stack(
     subject: Part,
     unit: Part,
@@ -21,11 +22,14 @@ pub fn stack(
 ) -> Result<ResourceState, ProfileError>
     ensures { result ≡ with_amount quantity (stack_of subject unit) }
 {
-    quantity.map(|quantity| ResourceState::ConsumableStack(ConsumableStackState {
-        subject,
-        quantity,
-        unit,
-    }))
+    match quantity {
+        Ok(quantity) => Ok(ResourceState::ConsumableStack(ConsumableStackState {
+            subject,
+            quantity,
+            unit,
+        })),
+        Err(e) => Err(e),
+    }
 }
 
 pub fn balance(
@@ -35,11 +39,14 @@ pub fn balance(
 ) -> Result<ResourceState, ProfileError>
     ensures { result ≡ with_amount amount (balance_of subject unit) }
 {
-    amount.map(|balance| ResourceState::FungibleBalance(FungibleBalanceState {
-        subject,
-        balance,
-        unit,
-    }))
+    match amount {
+        Ok(balance) => Ok(ResourceState::FungibleBalance(FungibleBalanceState {
+            subject,
+            balance,
+            unit,
+        })),
+        Err(e) => Err(e),
+    }
 }
 
 #[tactic(auto, unfolding(crate::specs::Apply::stack_next))]

@@ -5,16 +5,18 @@ use mathlib.Core.Bool.{Bool, true, false, cond}
 use mathlib.Core.List.{List, [], ◌∷◌}
 use Prim.Native.Nat.{ℕ, ◌<◌, ◌≤◌}
 use native.Mathlib.Omega.{arith}
+use lib.Dec.{eqb}
 use lib.ListN.{length}
 use borrow.Author.Tests.{eq-eqb}
-use Rattle.amount.specs.Numbers.{halves}
+use Rattle.amount.specs.Numbers.{val, halves}
 use Rattle.amount.specs.declared.Amount.{Amount}
+use Rattle.amount.specs.declared.uint128.Uint128.{Uint128}
 use Rattle.sheet.specs.Fields.{Field, text, field, subject, unit, balance, amount, to_subject}
 use Rattle.registry.specs.Readers.{text_in, amount_in, amount_of, readable, on_amount, read_amount}
 use Rattle.registry.specs.Tests.{◌then◌, state_absent, state_there, above_zero, held_by, first, born}
 use Rattle.registry.specs.Refusals.{Outcome, Reading}
 use Rattle.registry.specs.declared.error.ProfileError.{ProfileError}
-use Rattle.registry.specs.declared.error.ProfileError.TheVariants.{Empty, InsufficientQuantity}
+use Rattle.registry.specs.declared.error.ProfileError.TheVariants.{Empty, NonPositiveAmount, InsufficientQuantity}
 use Rattle.registry.proofs.Tests.{then_end, among_each}
 use Rattle.profiles.specs.Balance.{balance_rules, debited}
 use Rattle.book.specs.Sets.{has}
@@ -26,11 +28,22 @@ use Rattle.book.specs.declared.error.BookError.TheVariants.{Profile}
 use Rattle.book.proofs.Accepted.{fact_held, held_short}
 use Rattle.book.proofs.Asking.{begin_debits}
 use Rattle.book.proofs.Effects.{asked_whole}
-use Rattle.steps.specs.Turn.{in_code, doing_of, authorized, authorizing}
+use Rattle.steps.specs.Turn.{whole_of, in_code, doing_of, authorized, authorizing}
 use Rattle.steps.specs.declared.act.Doing.{Doing as CodeDoing}
 use Rattle.steps.specs.declared.act.Doing.TheVariants as Does
 use Rattle.steps.proofs.Tested.{Here, place_open, check_at_lem, create_at}
 use Rattle.std.specs.Prelude.{Some, None, Ok, Err}
+
+-- ---- 14, by the code's test of the mantissa
+
+module _ (m : Uint128) (t : Bool) (e : t ≡ eqb (val m) 0) where
+  pub not_positive : t ≡ true → above_zero (whole_of m) ≡ Err NonPositiveAmount
+  unfolding above_zero
+  not_positive h = rw (← e, h)
+
+  pub is_positive : t ≡ false → above_zero (whole_of m) ≡ Ok tt
+  unfolding above_zero
+  is_positive h = rw (← e, h)
 
 -- ---- what a sheet asks
 

@@ -45,13 +45,12 @@ pub(crate) fn act(
         return Err(BookError::Profile(ProfileError::UnknownOperation));
     };
     require_authorized(operation, sheet)?;
-    // a match: with `?` std's `branch` is called, 45 instructions of each step
-    let asked = match registry::input_amount(sheet, AMOUNT) {
-        Ok(a) => a,
-        Err(e) => return Err(BookError::Profile(e)),
+    let Some(amount) = registry::input_mantissa(sheet, AMOUNT) else {
+        return Err(BookError::Profile(registry::amount_refusal(sheet, AMOUNT)));
     };
-    registry::require_positive(asked)?;
-    let amount = asked.mantissa;
+    if amount.is_zero() {
+        return Err(BookError::Profile(ProfileError::NonPositiveAmount));
+    }
     match doing {
         Doing::Issuing => {
             // std's `ok_or` would be called, 57 instructions

@@ -39,18 +39,18 @@ pub(crate) fn begin(
     if was.named == 0 {
         return Err(BookError::Profile(ProfileError::Empty(TO_SUBJECT)));
     }
-    // a match, as in `act`
-    let asked = match registry::input_amount(sheet, AMOUNT) {
-        Ok(a) => a,
-        Err(e) => return Err(BookError::Profile(e)),
+    let Some(amount) = registry::input_mantissa(sheet, AMOUNT) else {
+        return Err(BookError::Profile(registry::amount_refusal(sheet, AMOUNT)));
     };
-    registry::require_positive(asked)?;
-    let Some(rest) = was.held.checked_sub(asked.mantissa) else {
-        return Err(step::short(was.held, asked.mantissa));
+    if amount.is_zero() {
+        return Err(BookError::Profile(ProfileError::NonPositiveAmount));
+    }
+    let Some(rest) = was.held.checked_sub(amount) else {
+        return Err(step::short(was.held, amount));
     };
     Ok(View {
         held: rest,
-        carried: asked.mantissa,
+        carried: amount,
         pending: sets::with8(was.pending, transfer % TRANSFERS),
         from,
         to,

@@ -33,7 +33,9 @@ pub(crate) fn open(
     registry::require_sound_input(sheet)?;
     registry::input_str(sheet, SUBJECT)?;
     registry::input_str(sheet, UNIT)?;
-    let balance = registry::input_amount(sheet, BALANCE)?;
+    let Some(balance) = registry::input_mantissa(sheet, BALANCE) else {
+        return Err(BookError::Profile(registry::amount_refusal(sheet, BALANCE)));
+    };
     if !names::is_named(unit, registry::text(sheet, UNIT)) {
         return Err(BookError::OtherUnit);
     }
@@ -41,11 +43,11 @@ pub(crate) fn open(
         return Err(BookError::LongName(SUBJECT));
     }
     // as in `act`
-    let Some(sum) = total.checked_add(balance.mantissa) else {
+    let Some(sum) = total.checked_add(balance) else {
         return Err(BookError::TooMuch);
     };
     Ok(View {
-        held: balance.mantissa,
+        held: balance,
         reserved: Uint128::ZERO,
         total: Some(sum),
         opened: sets::with16(was.opened, place % PLACES),

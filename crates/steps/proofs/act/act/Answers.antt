@@ -1,5 +1,5 @@
 use Rattle.steps.proofs.Tested.{Past, past_sound, pass, stop, all_passed, Here, open_as, there_as, reserved_is, room_so, no_room}
-use Rattle.steps.proofs.Checks.{amounts, asks_for, asks_number, is_whole, amounts_failed, amounts_nothing, amounts_added, amounts_short, amounts_taken, doing_found, doing_unfound, does_so, act_unauthorized, act_amounts}
+use Rattle.steps.proofs.Checks.{amounts, asks_for, asks_number, is_whole, amounts_failed, amounts_nothing, amounts_added, amounts_short, amounts_taken, not_positive, is_positive, doing_found, doing_unfound, does_so, act_unauthorized, act_amounts}
 use Rattle.steps.proofs.Turned.{held_whole, reserved_whole, counted, uncharged, refuses, accepts}
 use Rattle.steps.proofs.Stored.{stock_within, stored_act}
 use Rattle.steps.specs.Turn.{Shows, whole_of, in_code, authorizing}
@@ -19,6 +19,7 @@ use Rattle.registry.specs.Refusals.{Outcome}
 use Rattle.registry.specs.declared.error.ProfileError.{ProfileError}
 use Rattle.registry.specs.declared.error.ProfileError.TheVariants.{UnknownOperation, Unborn, InsufficientQuantity}
 use Rattle.registry.proofs.Tests.{exits}
+use Rattle.registry.proofs.Readers.{mantissa_given, mantissa_absent}
 use Rattle.book.specs.Book.{is_well_formed, place_record, total, whole_amount}
 use Rattle.book.specs.Steps.{Act, tests_act, adds, acts, Doing, Issuing, Taking, Reserving, Releasing, doing, after_check, credits_in, answer, said, seen, check_at, issues, takes, inflow, outflow, act_flow}
 use Rattle.book.specs.declared.Book.{Book}
@@ -34,7 +35,7 @@ use Prim.Native.Nat.{ℕ, ◌+◌, ◌<◌, ◌≤◌}
 use mathlib.Core.Bool.{true, false}
 use mathlib.Core.List.{List}
 use mathlib.Core.Path.{◌≡◌, refl, sym, ap, ◌∙◌}
-use Rattle.steps.proofs.act.act.Goals.{In-Some, In_ok-require_positive}
+use Rattle.steps.proofs.act.act.Goals.{In-Some, In-Some-input_mantissa, Else-is_zero}
 use Rattle.steps.proofs.act.act.Goals as goal
 
 -- ---- the tests that are passed before the check: 22, 6, 2, 4
@@ -119,14 +120,14 @@ record Asked (b : Book) (p o : ℕ) (i : List ℕ) (x : View) (d : CodeDoing) (a
   given : amount_in amount (field i amount) ≡ Ok a
   some : above_zero a ≡ Ok tt
 
-module _ {b : Book} (c : In_ok-require_positive) (v : Shows b (Code.Act c.args.place c.args.operation) c.args.was) (sound : is_well_formed b ≡ true) where
-  asked : Asked b c.args.place c.args.operation c.args.sheet.now c.args.was c.in-Some.doing c.in-Ok.a
+module _ {b : Book} (c : Else-is_zero) (v : Shows b (Code.Act c.args.place c.args.operation) c.args.was) (sound : is_well_formed b ≡ true) where
+  asked : Asked b c.args.place c.args.operation c.args.sheet.now c.args.was c.in-Some.doing (whole_of c.in-Some-input_mantissa.amount)
   asked =
       record {
-        ready = ready (goal.at.In_ok-require_positive c).In-Some v sound;
+        ready = ready (goal.at.Else-is_zero c).In-Some v sound;
         author = sym c.require_authorized.ensures ∙ c.in_ok-require_authorized.was;
-        given = sym c.input_amount.ensures ∙ c.in-Ok.is;
-        some = sym c.require_positive.ensures ∙ c.in_ok-require_positive.was;
+        given = mantissa_given _ _ _ (sym c.input_mantissa.ensures ∙ c.in-Some-input_mantissa.is);
+        some = is_positive _ _ c.is_zero.ensures c.if-is_zero.false;
       }
 
 module _ {b : Book} {p o : ℕ} {i : List ℕ} {x : View} {d : CodeDoing} {a : Amount} (f : Asked b p o i x d a) where
@@ -220,47 +221,47 @@ returns-in_err-require_authorized c b v n =
     let r = ready (goal.at.returns-in_err-require_authorized c).In-Some v (counted v n).0 in
     refuses _ _ _ (exits _ _ c.from_residual-in_err-require_authorized.ensures.1) (unauthorized r _ (sym c.require_authorized.ensures ∙ c.in_err-require_authorized.was))
 
-pub returns-in-Err : goal.returns-in-Err
-returns-in-Err c b v n =
-    let r = ready (goal.at.returns-in-Err c).In-Some v (counted v n).0 in
-    refuses _ _ _ refl
-    (unread r (sym c.require_authorized.ensures ∙ c.in_ok-require_authorized.was) _ (sym c.input_amount.ensures ∙ c.in-Err.is))
+pub returns-in_default-input_mantissa : goal.returns-in_default-input_mantissa
+returns-in_default-input_mantissa c b v n =
+    let r = ready (goal.at.returns-in_default-input_mantissa c).In-Some v (counted v n).0 in
+    refuses _ _ _ (ap (λ (e : ProfileError). Err (Profile e)) c.amount_refusal.ensures)
+    (unread r (sym c.require_authorized.ensures ∙ c.in_ok-require_authorized.was) _ (mantissa_absent _ _ (sym c.input_mantissa.ensures ∙ c.in_default-input_mantissa.is)))
 
-pub returns-in_err-require_positive : goal.returns-in_err-require_positive
-returns-in_err-require_positive c b v n =
-    let r = ready (goal.at.returns-in_err-require_positive c).In-Some v (counted v n).0 in
-    refuses _ _ _ (exits _ _ c.from_residual-in_err-require_positive.ensures.1)
-    (nothing r (sym c.require_authorized.ensures ∙ c.in_ok-require_authorized.was) (sym c.input_amount.ensures ∙ c.in-Ok.is) _ (sym c.require_positive.ensures ∙ c.in_err-require_positive.was))
+pub returns-then-is_zero : goal.returns-then-is_zero
+returns-then-is_zero c b v n =
+    let r = ready (goal.at.returns-then-is_zero c).In-Some v (counted v n).0 in
+    refuses _ _ _ refl
+    (nothing r (sym c.require_authorized.ensures ∙ c.in_ok-require_authorized.was) (mantissa_given _ _ _ (sym c.input_mantissa.ensures ∙ c.in-Some-input_mantissa.is)) _ (not_positive _ _ c.is_zero.ensures c.if-is_zero.true))
 
 pub returns-in_default-checked_add : goal.returns-in_default-checked_add
 returns-in_default-checked_add c b v n =
-    let f = asked (goal.at.returns-in_default-checked_add c).In_ok-require_positive v (counted v n).0 in
+    let f = asked (goal.at.returns-in_default-checked_add c).Else-is_zero v (counted v n).0 in
     let past : limit ≤ total b + credits_in amount c.args.sheet.now =
     rw (val_of (counted v n).1, number f) at (checked_none _ (sym c.in_default-checked_add.is ∙ c.checked_add.ensures)) in
     refuses _ TooMuch _ refl (refused f Issuing c.in-Issuing.is (added f Issuing c.in-Issuing.is refl) (no_room b _ past))
 
 pub returns-in_default-checked_sub : goal.returns-in_default-checked_sub
 returns-in_default-checked_sub c b v n =
-    let f = asked (goal.at.returns-in_default-checked_sub c).In_ok-require_positive v (counted v n).0 in
+    let f = asked (goal.at.returns-in_default-checked_sub c).Else-is_zero v (counted v n).0 in
     let less = difference_none _ _ (sym c.in_default-checked_sub.is ∙ c.checked_sub.ensures) in
     refuses _ _ _ (ap Err c.short.ensures) (short f Taking c.in-Taking.is refl less)
 
 pub returns-in_default-checked_sub-2 : goal.returns-in_default-checked_sub-2
 returns-in_default-checked_sub-2 c b v n =
-    let f = asked (goal.at.returns-in_default-checked_sub-2 c).In_ok-require_positive v (counted v n).0 in
+    let f = asked (goal.at.returns-in_default-checked_sub-2 c).Else-is_zero v (counted v n).0 in
     let less = difference_none _ _ (sym c.in_default-checked_sub-2.is ∙ c.checked_sub-in-Reserving.ensures) in
     refuses _ _ _ (ap Err c.short-in_default-checked_sub-2.ensures) (short f Reserving c.in-Reserving.is refl less)
 
 pub returns-in_default-checked_sub-3 : goal.returns-in_default-checked_sub-3
 returns-in_default-checked_sub-3 c b v n =
-    let f = asked (goal.at.returns-in_default-checked_sub-3 c).In_ok-require_positive v (counted v n).0 in
+    let f = asked (goal.at.returns-in_default-checked_sub-3 c).Else-is_zero v (counted v n).0 in
     let past = rw (number f) at (difference_none _ _ (sym c.in_default-checked_sub-3.is ∙ c.checked_sub-in-Releasing.ensures)) in
     refuses _ NotReserved _ refl (refused f Releasing c.in-Releasing.is (added f Releasing c.in-Releasing.is refl) (unreserved f past))
 
 pub returns-in-Some-checked_add : goal.returns-in-Some-checked_add
 returns-in-Some-checked_add c b v n =
     let i = c.args.sheet.now in
-    let f = asked (goal.at.returns-in-Some-checked_add c).In_ok-require_positive v (counted v n).0 in
+    let f = asked (goal.at.returns-in-Some-checked_add c).Else-is_zero v (counted v n).0 in
     let e = does f Issuing c.in-Issuing.is in
     let sum = checked_is _ _ (sym c.in-Some-checked_add.is ∙ c.checked_add.ensures) in
     let all = val_of (counted v n).1 in
@@ -274,7 +275,7 @@ returns-in-Some-checked_add c b v n =
 pub returns-in-Some-checked_sub : goal.returns-in-Some-checked_sub
 returns-in-Some-checked_sub c b v n =
     let i = c.args.sheet.now in
-    let f = asked (goal.at.returns-in-Some-checked_sub c).In_ok-require_positive v (counted v n).0 in
+    let f = asked (goal.at.returns-in-Some-checked_sub c).Else-is_zero v (counted v n).0 in
     let e = does f Taking c.in-Taking.is in
     let rest = difference_is _ _ _ (sym c.in-Some-checked_sub.is ∙ c.checked_sub.ensures) in
     let all = val_of (counted v n).1 in
@@ -287,7 +288,7 @@ returns-in-Some-checked_sub c b v n =
 pub returns-in-Some-checked_sub-2 : goal.returns-in-Some-checked_sub-2
 returns-in-Some-checked_sub-2 c b v n =
     let i = c.args.sheet.now in
-    let f = asked (goal.at.returns-in-Some-checked_sub-2 c).In_ok-require_positive v (counted v n).0 in
+    let f = asked (goal.at.returns-in-Some-checked_sub-2 c).Else-is_zero v (counted v n).0 in
     let e = does f Reserving c.in-Reserving.is in
     let rest = difference_is _ _ _ (sym c.in-Some-checked_sub-2.is ∙ c.checked_sub-in-Reserving.ensures) in
     let yes· = accepted f Reserving c.in-Reserving.is (taken f Reserving c.in-Reserving.is refl rest.0) refl in
@@ -300,7 +301,7 @@ returns-in-Some-checked_sub-2 c b v n =
 pub returns-in-Some-checked_sub-3 : goal.returns-in-Some-checked_sub-3
 returns-in-Some-checked_sub-3 c b v n =
     let i = c.args.sheet.now in
-    let f = asked (goal.at.returns-in-Some-checked_sub-3 c).In_ok-require_positive v (counted v n).0 in
+    let f = asked (goal.at.returns-in-Some-checked_sub-3 c).Else-is_zero v (counted v n).0 in
     let e = does f Releasing c.in-Releasing.is in
     let rest = difference_is _ _ _ (sym c.in-Some-checked_sub-3.is ∙ c.checked_sub-in-Releasing.ensures) in
     let within : credits_in amount i ≤ val c.args.was.reserved = rw (number f) at rest.0 in

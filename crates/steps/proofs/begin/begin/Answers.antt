@@ -1,5 +1,5 @@
 use Rattle.steps.proofs.Tested.{Past, past_sound, pass, stop, all_passed, Here, busy_as, both_as, ends_as, both_here}
-use Rattle.steps.proofs.Checks.{amounts, asks_for, asks_number, is_whole, amounts_failed, amounts_nothing, amounts_short, amounts_taken, begin_nameless, begin_check}
+use Rattle.steps.proofs.Checks.{amounts, asks_for, asks_number, is_whole, amounts_failed, amounts_nothing, amounts_short, amounts_taken, not_positive, is_positive, begin_nameless, begin_check}
 use Rattle.steps.proofs.Turned.{held_whole, uncharged, refuses, accepts}
 use Rattle.steps.proofs.Stored.{low_ends, stored_begin}
 use Rattle.steps.specs.Turn.{Shows, whole_of}
@@ -18,6 +18,7 @@ use Rattle.registry.specs.Refusals.{Outcome}
 use Rattle.registry.specs.declared.error.ProfileError.{ProfileError}
 use Rattle.registry.specs.declared.error.ProfileError.TheVariants.{Unborn, Empty, InsufficientQuantity}
 use Rattle.registry.proofs.Tests.{exits}
+use Rattle.registry.proofs.Readers.{mantissa_given, mantissa_absent}
 use Rattle.book.specs.Sets.{has}
 use Rattle.book.specs.Book.{is_well_formed, place_record, name_bytes, whole_amount}
 use Rattle.book.specs.Steps.{Begin, tests_begin, credits_in, answer, said, seen, check_at, sent_to}
@@ -177,29 +178,31 @@ pub returns-then-was-eq0 : goal.returns-then-was-eq0
 returns-then-was-eq0 c b sound v =
     refuses _ (Profile (Empty to_subject)) _ refl (nameless (ready (goal.at.returns-then-was-eq0 c).In_ok-require_sound_input sound v) c.if-was-eq0.true)
 
-pub returns-in-Err : goal.returns-in-Err
-returns-in-Err c b sound v =
-    refuses _ _ _ refl
-    (unread (ready (goal.at.returns-in-Err c).In_ok-require_sound_input sound v) c.if-was-eq0.false _ (sym c.input_amount.ensures ∙ c.in-Err.is))
-
-pub returns-in_err-require_positive : goal.returns-in_err-require_positive
-returns-in_err-require_positive c b sound v =
-    refuses _ _ _ (exits _ _ c.from_residual-in_err-require_positive.ensures.1)
-    (nothing (ready (goal.at.returns-in_err-require_positive c).In_ok-require_sound_input sound v) c.if-was-eq0.false
-    (sym c.input_amount.ensures ∙ c.in-Ok.is) _ (sym c.require_positive.ensures ∙ c.in_err-require_positive.was))
-
 pub returns-in_default : goal.returns-in_default
 returns-in_default c b sound v =
+    refuses _ _ _ (ap (λ (e : ProfileError). Err (Profile e)) c.amount_refusal.ensures)
+    (unread (ready (goal.at.returns-in_default c).In_ok-require_sound_input sound v) c.if-was-eq0.false _
+    (mantissa_absent _ _ (sym c.input_mantissa.ensures ∙ c.in_default.is)))
+
+pub returns-then-is_zero : goal.returns-then-is_zero
+returns-then-is_zero c b sound v =
+    refuses _ _ _ refl
+    (nothing (ready (goal.at.returns-then-is_zero c).In_ok-require_sound_input sound v) c.if-was-eq0.false
+    (mantissa_given _ _ _ (sym c.input_mantissa.ensures ∙ c.in-Some.is)) _ (not_positive _ _ c.is_zero.ensures c.if-is_zero.true))
+
+pub returns-in_default-checked_sub : goal.returns-in_default-checked_sub
+returns-in_default-checked_sub c b sound v =
     refuses _ _ _ (ap Err c.short.ensures)
-    (short (ready (goal.at.returns-in_default c).In_ok-require_sound_input sound v) c.if-was-eq0.false
-    (sym c.input_amount.ensures ∙ c.in-Ok.is) (sym c.require_positive.ensures ∙ c.in_ok-require_positive.was) (difference_none _ _ (sym c.in_default.is ∙ c.checked_sub.ensures)))
+    (short (ready (goal.at.returns-in_default-checked_sub c).In_ok-require_sound_input sound v) c.if-was-eq0.false
+    (mantissa_given _ _ _ (sym c.input_mantissa.ensures ∙ c.in-Some.is)) (is_positive _ _ c.is_zero.ensures c.if-is_zero.false)
+    (difference_none _ _ (sym c.in_default-checked_sub.is ∙ c.checked_sub.ensures)))
 
 pub returns : goal.returns
 returns c b sound v =
     let r = ready (goal.at.returns c).In_ok-require_sound_input sound v in
-    let given = sym c.input_amount.ensures ∙ c.in-Ok.is in
-    let rest = difference_is _ _ _ (sym c.in-Some.is ∙ c.checked_sub.ensures) in
-    let yes· = taken r c.if-was-eq0.false given (sym c.require_positive.ensures ∙ c.in_ok-require_positive.was) rest.0 in
+    let given = mantissa_given _ _ _ (sym c.input_mantissa.ensures ∙ c.in-Some.is) in
+    let rest = difference_is _ _ _ (sym c.in-Some-checked_sub.is ∙ c.checked_sub.ensures) in
+    let yes· = taken r c.if-was-eq0.false given (is_positive _ _ c.is_zero.ensures c.if-is_zero.false) rest.0 in
     accepts _ _ yes·
     (stored_begin b _ _ _ c.args.sheet.now yes· _ _ _ _ v (rest.1 ∙ rw (r.held, asks r c.if-was-eq0.false given)) (asks_number amount c.args.sheet.now _ given) c.with8.ensures)
     (λ m h. uncharged v sound (omega (arith, h)))

@@ -14,8 +14,10 @@ use Rattle.sheet.specs.Fields.{field, subject, unit, balance}
 use Rattle.registry.specs.Call.{input_sound}
 use Rattle.registry.specs.Readers.{text_in, amount_in, readable, bytes_of}
 use Rattle.registry.specs.Refusals.{Reading}
+use Rattle.registry.specs.declared.error.ProfileError.{ProfileError}
 use Rattle.registry.specs.declared.error.ProfileError.TheVariants.{Born}
 use Rattle.registry.proofs.Tests.{exits}
+use Rattle.registry.proofs.Readers.{mantissa_given, mantissa_absent}
 use Rattle.book.specs.Sets.{has}
 use Rattle.book.specs.Book.{is_well_formed, name_bytes, total}
 use Rattle.book.specs.Steps.{Open, tests_open, credits_in, answer, said, seen, check_at, same_bytes}
@@ -107,22 +109,22 @@ returns-in_err-input_str-2 c b v n u =
     (stop (past-4 v i (counted v n).0 (omega arith) (cc) (sym c.require_sound_input.ensures ∙ c.in_ok-require_sound_input.was)) _
     (open_unitless b _ _ (closed v i (counted v n).0 (omega arith) (cc)) (sym c.input_str.ensures ∙ c.in_ok-input_str.was) _ (sym c.input_str-2.ensures ∙ c.in_err-input_str-2.was)))
 
-pub returns-in_err-balance : goal.returns-in_err-balance
+pub returns-in_default : goal.returns-in_default
 unfolding tests_open
-returns-in_err-balance c b v n u =
+returns-in_default c b v n u =
     let i = c.args.sheet.now in
     let whole = sym c.require_sound_input.ensures ∙ c.in_ok-require_sound_input.was in
-    refuses i _ _ (exits _ _ c.from_residual-in_err-balance.ensures.1)
+    refuses i _ _ (ap (λ (e : ProfileError). Err (Profile e)) c.amount_refusal.ensures)
     (stop (past-4 v i (counted v n).0 (omega arith) (cc) whole) _
     (checks v i (counted v n).0 (omega arith) (cc) whole (sym c.input_str.ensures ∙ c.in_ok-input_str.was) (sym c.input_str-2.ensures ∙ c.in_ok-input_str-2.was)
-    ∙ ap (λ (r : Reading). said (readable r)) (sym c.input_amount.ensures ∙ c.in_err-balance.was)))
+    ∙ ap (λ (r : Reading). said (readable r)) (mantissa_absent _ _ (sym c.input_mantissa.ensures ∙ c.in_default.is))))
 
 pub returns-then-not-is_named : goal.returns-then-not-is_named
 unfolding tests_open
 returns-then-not-is_named c b v n u =
     let i = c.args.sheet.now in
     refuses i OtherUnit _ refl
-    (stop (past-5 v i (counted v n).0 (omega arith) (cc) (sym c.require_sound_input.ensures ∙ c.in_ok-require_sound_input.was) (sym c.input_str.ensures ∙ c.in_ok-input_str.was) (sym c.input_str-2.ensures ∙ c.in_ok-input_str-2.was) (sym c.input_amount.ensures ∙ c.in_ok-balance.was)) _
+    (stop (past-5 v i (counted v n).0 (omega arith) (cc) (sym c.require_sound_input.ensures ∙ c.in_ok-require_sound_input.was) (sym c.input_str.ensures ∙ c.in_ok-input_str.was) (sym c.input_str-2.ensures ∙ c.in_ok-input_str-2.was) (mantissa_given _ _ _ (sym c.input_mantissa.ensures ∙ c.in-Some.is))) _
     (rw (unit_as b _ _ _ _ u c.text.ensures c.is_named.ensures ∙ c.if-not-is_named.true)))
 
 pub returns-then-text-gt-NAME_BYTES : goal.returns-then-text-gt-NAME_BYTES
@@ -130,16 +132,16 @@ unfolding tests_open
 returns-then-text-gt-NAME_BYTES c b v n u =
     let i = c.args.sheet.now in
     refuses i (LongName subject) _ refl
-    (stop (past-6 v i (counted v n).0 (omega arith) (cc) (sym c.require_sound_input.ensures ∙ c.in_ok-require_sound_input.was) (sym c.input_str.ensures ∙ c.in_ok-input_str.was) (sym c.input_str-2.ensures ∙ c.in_ok-input_str-2.was) (sym c.input_amount.ensures ∙ c.in_ok-balance.was) (cc)) _
+    (stop (past-6 v i (counted v n).0 (omega arith) (cc) (sym c.require_sound_input.ensures ∙ c.in_ok-require_sound_input.was) (sym c.input_str.ensures ∙ c.in_ok-input_str.was) (sym c.input_str-2.ensures ∙ c.in_ok-input_str-2.was) (mantissa_given _ _ _ (sym c.input_mantissa.ensures ∙ c.in-Some.is)) (cc)) _
     (rw (subject_as b i _ c.text-2.ensures, lt-ltb 32 _ c.if-text-gt-NAME_BYTES.true)))
 
-pub returns-in_default : goal.returns-in_default
+pub returns-in_default-checked_add : goal.returns-in_default-checked_add
 unfolding tests_open
-returns-in_default c b v n u =
+returns-in_default-checked_add c b v n u =
     let i = c.args.sheet.now in
-    let given = sym c.input_amount.ensures ∙ c.in_ok-balance.was in
+    let given = mantissa_given _ _ _ (sym c.input_mantissa.ensures ∙ c.in-Some.is) in
     let short : length (bytes_of (field i subject)) ≤ 32 = rw c.text-2.ensures at c.if-text-gt-NAME_BYTES.false in
-    let over = checked_none _ (sym c.in_default.is ∙ c.checked_add.ensures) in
+    let over = checked_none _ (sym c.in_default-checked_add.is ∙ c.checked_add.ensures) in
     let past : limit ≤ total b + credits_in balance i = rw (val_of (counted v n).1, val_of (asks_number balance i _ given)) at over in
     refuses i TooMuch _ refl
     (stop (past-7 v i (counted v n).0 (omega arith) (cc) (sym c.require_sound_input.ensures ∙ c.in_ok-require_sound_input.was) (sym c.input_str.ensures ∙ c.in_ok-input_str.was) (sym c.input_str-2.ensures ∙ c.in_ok-input_str-2.was) given (cc) short) _
@@ -149,9 +151,9 @@ pub returns : goal.returns
 unfolding tests_open
 returns c b v n u =
     let i = c.args.sheet.now in
-    let given = sym c.input_amount.ensures ∙ c.in_ok-balance.was in
+    let given = mantissa_given _ _ _ (sym c.input_mantissa.ensures ∙ c.in-Some.is) in
     let short : length (bytes_of (field i subject)) ≤ 32 = rw c.text-2.ensures at c.if-text-gt-NAME_BYTES.false in
-    let sum = checked_is _ _ (sym c.in-Some.is ∙ c.checked_add.ensures) in
+    let sum = checked_is _ _ (sym c.in-Some-checked_add.is ∙ c.checked_add.ensures) in
     let all = val_of (counted v n).1 in
     let asks = asks_number balance i _ given in
     let room : total b + credits_in balance i < limit = rw (all, val_of asks) at sum.0 in
