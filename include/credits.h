@@ -29,7 +29,7 @@
  *   credits_amount_sub       112    credits_book_act       1024    credits_session_run      5296
  *   credits_amount_text      968    credits_book_begin     1024    credits_session_listing  5312
  *   credits_check           1280
- *   credits_apply           1376
+ *   credits_apply           1392
  */
 #ifndef CREDITS_H
 #define CREDITS_H

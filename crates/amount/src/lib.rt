@@ -185,14 +185,14 @@ impl Ord for Amount {
 fn compare(left: Amount, right: Amount) -> Ordering
     ensures { result ≡ compare_of left right }
 {
-    // two tests, that of one scale first, which most have: by a match of `cmp` it takes 51 instructions for 41
+    // one scale first, which most have: by a match of `cmp` it takes 51 instructions for 41
     if left.scale == right.scale {
         return left.mantissa.cmp(&right.mantissa);
     }
-    if left.scale < right.scale {
-        return cmp_rescaled(left.mantissa, right.mantissa, right.scale - left.scale);
+    match right.scale.checked_sub(left.scale) {
+        Some(places) => cmp_rescaled(left.mantissa, right.mantissa, places),
+        None => { cmp_rescaled(right.mantissa, left.mantissa, left.scale - right.scale).reverse() }
     }
-    cmp_rescaled(right.mantissa, left.mantissa, left.scale - right.scale).reverse()
 }
 
 // So many digits always make a number below 2^64.

@@ -13,8 +13,8 @@ use registry::error::ProfileError;
 use registry::op;
 use sheet::{AMOUNT, BALANCE, QUANTITY, SUBJECT, TO_UNIT, UNIT};
 
-// A stack with these texts and the amount that was read. `balance` makes another variant of other fields, the Rust's. A match: std's `map` copies
-// the whole `Result` once more, which the processor waits for.
+// A stack with these texts and the amount that was read. `balance` makes another variant of other fields, the Rust's. The question mark:
+// std's `map` copies the whole `Result` once more, which the processor waits for.
 pub fn stack(
     subject: Part,
     unit: Part,
@@ -22,14 +22,12 @@ pub fn stack(
 ) -> Result<ResourceState, ProfileError>
     ensures { result ≡ with_amount quantity (stack_of subject unit) }
 {
-    match quantity {
-        Ok(quantity) => Ok(ResourceState::ConsumableStack(ConsumableStackState {
-            subject,
-            quantity,
-            unit,
-        })),
-        Err(e) => Err(e),
-    }
+    let quantity = quantity?;
+    Ok(ResourceState::ConsumableStack(ConsumableStackState {
+        subject,
+        quantity,
+        unit,
+    }))
 }
 
 pub fn balance(
@@ -39,14 +37,12 @@ pub fn balance(
 ) -> Result<ResourceState, ProfileError>
     ensures { result ≡ with_amount amount (balance_of subject unit) }
 {
-    match amount {
-        Ok(balance) => Ok(ResourceState::FungibleBalance(FungibleBalanceState {
-            subject,
-            balance,
-            unit,
-        })),
-        Err(e) => Err(e),
-    }
+    let balance = amount?;
+    Ok(ResourceState::FungibleBalance(FungibleBalanceState {
+        subject,
+        balance,
+        unit,
+    }))
 }
 
 #[tactic(auto, unfolding(crate::specs::Apply::stack_next))]
