@@ -1,4 +1,3 @@
-use mathlib.Core.Path.{◌∙◌}
 use Rattle.registry.specs.Helpers.{fault_in}
 use Rattle.sheet.specs.Fields.{field}
 use Rattle.registry.proofs.amount_refusal.Goals as goal
